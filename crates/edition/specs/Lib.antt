@@ -1,0 +1,3 @@
+pub mod Feature
+pub mod Mask
+pub mod Judge

@@ -1,0 +1,100 @@
+// Editions of the Arm manual as sets of chip features, masks of editions, and the refusals that go by them.
+ghost use mathlib.Core.Path.{_≡_};
+ghost use lib.Count.{ones};
+ghost use Rattle.edition.specs.Feature.{isEdition};
+ghost use Rattle.edition.specs.Judge.{numberOf, maskIn, countIn, judgeOf};
+
+// How many editions there are. A mask of editions is a u32, which has room for more.
+pub const EDITIONS: u32 = 8;
+
+// The editions that have each feature, and all of them.
+pub const RAS: u32 = 0xAA;
+
+pub const LPA2: u32 = 0xCC;
+
+pub const HAFDBS: u32 = 0xF0;
+
+pub const ALL: u32 = 0xFF;
+
+// Why a word or a record is refused.
+pub enum Refusal {
+    // 1: the edition's number is too large.
+    UnknownEdition,
+    // 2: bits 63:32 of the syndrome are not zero.
+    UpperHalf,
+    // 3: the exception class is not in the build.
+    UnknownClass,
+    // 4: IL is 0, a 16-bit instruction, where it must be 1.
+    ShortInstruction,
+    // 5: no edition has it.
+    NoEdition,
+    // 6: other editions have it: their mask, and its number of ones.
+    OtherEditions(u32, u32),
+}
+
+pub enum Verdict {
+    Taken,
+    Refused(Refusal),
+}
+
+// The refusal's number in the definition.
+pub fn number(refusal: Refusal) -> u32
+    ensures { λ r. ⌜ r ≡ numberOf refusal ⌝ }
+{
+    match refusal {
+        Refusal::UnknownEdition => 1,
+        Refusal::UpperHalf => 2,
+        Refusal::UnknownClass => 3,
+        Refusal::ShortInstruction => 4,
+        Refusal::NoEdition => 5,
+        Refusal::OtherEditions(_, _) => 6,
+    }
+}
+
+// The mask that a refusal carries.
+pub fn mask(refusal: Refusal) -> u32
+    ensures { λ r. ⌜ r ≡ maskIn refusal ⌝ }
+{
+    match refusal {
+        Refusal::UnknownEdition => 0,
+        Refusal::UpperHalf => 0,
+        Refusal::UnknownClass => 0,
+        Refusal::ShortInstruction => 0,
+        Refusal::NoEdition => 0,
+        Refusal::OtherEditions(mask, _) => mask,
+    }
+}
+
+// The number of editions that a refusal carries.
+pub fn count(refusal: Refusal) -> u32
+    ensures { λ r. ⌜ r ≡ countIn refusal ⌝ }
+{
+    match refusal {
+        Refusal::UnknownEdition => 0,
+        Refusal::UpperHalf => 0,
+        Refusal::UnknownClass => 0,
+        Refusal::ShortInstruction => 0,
+        Refusal::NoEdition => 0,
+        Refusal::OtherEditions(_, count) => count,
+    }
+}
+
+// Whether the number is an edition's.
+pub fn known(edition: u32) -> bool
+    ensures { λ r. ⌜ r ≡ isEdition edition ⌝ }
+{
+    edition < EDITIONS
+}
+
+// What an edition says of something that the editions of a mask have.
+pub fn judge(edition: u32, mask: u32) -> Verdict
+    ensures { λ r. ⌜ r ≡ judgeOf edition mask ⌝ }
+{
+    if bits::bit(mask as u64, edition) {
+        return Verdict::Taken;
+    }
+    if mask == 0 {
+        return Verdict::Refused(Refusal::NoEdition);
+    }
+    Verdict::Refused(Refusal::OtherEditions(mask, u32::count_ones(mask)))
+}
