@@ -1,17 +1,17 @@
 -- Laws of layouts, over every list of fields: what stands at a field's bits of the word is its value, and `|` adds the fields up.
 -- Assumes nothing.
 use mathlib.Core.Path.{_≡_, refl, _∙_, sym, ap, ap₂, subst}
-use mathlib.Core.Bool.{Bool, true, false, _&&_}
+use mathlib.Core.Bool.{Bool, true, false, _&&_, and-true, and-assoc}
 use mathlib.Core.List.{List, [], _∷_}
 use Prim.Native.Nat.{ℕ, _+_, _-_, _*_, _/_, _%_, _^_, _≤_, _<_}
 use native.Mathlib.Nat.{add-assoc, add-mul, add-zero, zero-add, zero-mul, lt-of-lt-of-le, mod-eq-of-lt, sub-add-cancel}
 use native.Mathlib.Omega.{arith}
 use lib.Arith.{digits-lt}
 use lib.Bits.{bitOr, or-shifted}
-use lib.Dec.{T, leb, ltb, leb→le, ltb→lt}
+use lib.Dec.{T, leb, ltb, leb→le, ltb→lt, lit<}
 use lib.Pow.{pow-pos, pow-mono, pow-add, shl-lt, high, low}
-use Rattle.bits.specs.Field.{widthOf, fieldOf, placedOf}
-use Rattle.bits.specs.Layout.{Field, wordOf, fitting, ordered, joinedFrom}
+use Rattle.bits.specs.Field.{widthOf, fieldOf, digit, placedOf}
+use Rattle.bits.specs.Layout.{Field, at, flagAt, highOf, lowOf, valueOf, wordOf, fittingAfter, fitting, ordered, joinedFrom}
 use Rattle.bits.proofs.Powers.{shift-by-way}
 
 pub both-left : (a b : Bool) → T (a && b) → T a
@@ -24,33 +24,51 @@ both-right false b t = absurd t
 
 -- what `ordered` and `fitting` say of the first field
 module _ (top : ℕ) (f : Field) (fs : List Field) (o : T (ordered top (f ∷ fs))) where
-  places : T (leb (f .low) (f .high) && ltb (f .high) top)
-  places = both-left (leb (f .low) (f .high) && ltb (f .high) top) (ordered (f .low) fs) o
+  places : T (leb (lowOf f) (highOf f) && ltb (highOf f) top)
+  places = both-left (leb (lowOf f) (highOf f) && ltb (highOf f) top) (ordered (lowOf f) fs) o
 
-  low≤high : f .low ≤ f .high
-  low≤high = leb→le (f .low) (f .high) (both-left (leb (f .low) (f .high)) (ltb (f .high) top) places)
+  low≤high : lowOf f ≤ highOf f
+  low≤high = leb→le (lowOf f) (highOf f) (both-left (leb (lowOf f) (highOf f)) (ltb (highOf f) top) places)
 
-  high<top : f .high < top
-  high<top = ltb→lt (f .high) top (both-right (leb (f .low) (f .high)) (ltb (f .high) top) places)
+  high<top : highOf f < top
+  high<top = ltb→lt (highOf f) top (both-right (leb (lowOf f) (highOf f)) (ltb (highOf f) top) places)
 
-  rest-ordered : T (ordered (f .low) fs)
-  rest-ordered = both-right (leb (f .low) (f .high) && ltb (f .high) top) (ordered (f .low) fs) o
+  rest-ordered : T (ordered (lowOf f) fs)
+  rest-ordered = both-right (leb (lowOf f) (highOf f) && ltb (highOf f) top) (ordered (lowOf f) fs) o
 
-  low≤top : f .low ≤ top
+  low≤top : lowOf f ≤ top
   low≤top = omega (arith, low≤high, high<top)
 
-  width≤ : widthOf (f .high) (f .low) ≤ top - f .low
+  width≤ : widthOf (highOf f) (lowOf f) ≤ top - lowOf f
   width≤ = omega (arith, low≤high, high<top)
 
-module _ (f : Field) (fs : List Field) (t : T (fitting (f ∷ fs))) where
-  value-fits : f .value < 2 ^ widthOf (f .high) (f .low)
-  value-fits = ltb→lt _ _ (both-left (ltb (f .value) (2 ^ widthOf (f .high) (f .low))) (fitting fs) t)
+pub digit-below : (b : Bool) → digit b < 2
+digit-below true = lit< tt
+digit-below false = lit< tt
 
-  rest-fits : T (fitting fs)
-  rest-fits = both-right (ltb (f .value) (2 ^ widthOf (f .high) (f .low))) (fitting fs) t
+-- what came before counts as one test more
+fitting-after : (before : Bool) (fs : List Field) → fittingAfter before fs ≡ (before && fitting fs)
+fitting-after before [] = sym (and-true before)
+fitting-after before (at h l v ∷ fs) =
+    fitting-after (before && ltb v (2 ^ widthOf h l)) fs ∙ and-assoc before (ltb v (2 ^ widthOf h l)) (fitting fs)
+    ∙ ap (λ (b : Bool). before && b) (sym (fitting-after (ltb v (2 ^ widthOf h l)) fs))
+fitting-after before (flagAt n b ∷ fs) = fitting-after before fs
+
+value-fits : (f : Field) (fs : List Field) → T (fitting (f ∷ fs)) → valueOf f < 2 ^ widthOf (highOf f) (lowOf f)
+value-fits (at h l v) fs t =
+    ltb→lt v (2 ^ widthOf h l)
+    (both-left (ltb v (2 ^ widthOf h l)) (fitting fs) (subst T (fitting-after (ltb v (2 ^ widthOf h l)) fs) t))
+value-fits (flagAt n b) fs t =
+    let one : widthOf n n ≡ 1 = omega arith in
+    subst (λ (k : ℕ). digit b < 2 ^ k) (sym one) (digit-below b)
+
+rest-fits : (f : Field) (fs : List Field) → T (fitting (f ∷ fs)) → T (fitting fs)
+rest-fits (at h l v) fs t =
+    both-right (ltb v (2 ^ widthOf h l)) (fitting fs) (subst T (fitting-after (ltb v (2 ^ widthOf h l)) fs) t)
+rest-fits (flagAt n b) fs t = t
 
 -- a value at its bits stays below the top
-value-below : (top : ℕ) (f : Field) (fs : List Field) → T (ordered top (f ∷ fs)) → T (fitting (f ∷ fs)) → f .value < 2 ^ (top - f .low)
+value-below : (top : ℕ) (f : Field) (fs : List Field) → T (ordered top (f ∷ fs)) → T (fitting (f ∷ fs)) → valueOf f < 2 ^ (top - lowOf f)
 value-below top f fs o t = lt-of-lt-of-le (value-fits f fs t) (pow-mono (width≤ top f fs o))
 
 -- the word of fields below a bit is below that power of two
@@ -58,38 +76,38 @@ pub word-below : (top : ℕ) (fs : List Field) → T (ordered top fs) → T (fit
 word-below top [] o t = pow-pos top
 word-below top (f ∷ fs) o t =
     subst (λ (m : ℕ). wordOf (f ∷ fs) < m)
-    (sym (pow-add 2 (top - f .low) (f .low)) ∙ ap (λ (k : ℕ). 2 ^ k) (omega (arith, low≤top top f fs o)))
-    (digits-lt (value-below top f fs o t) (word-below (f .low) fs (rest-ordered top f fs o) (rest-fits f fs t)))
+    (sym (pow-add 2 (top - lowOf f) (lowOf f)) ∙ ap (λ (k : ℕ). 2 ^ k) (omega (arith, low≤top top f fs o)))
+    (digits-lt (value-below top f fs o t) (word-below (lowOf f) fs (rest-ordered top f fs o) (rest-fits f fs t)))
 
 -- what lies above the first field joins it, seen from the fields below
-regroup : (top above : ℕ) (f : Field) (fs : List Field) → f .low ≤ top
-    → above * 2 ^ top + wordOf (f ∷ fs) ≡ (above * 2 ^ (top - f .low) + f .value) * 2 ^ f .low + wordOf fs
+regroup : (top above : ℕ) (f : Field) (fs : List Field) → lowOf f ≤ top
+    → above * 2 ^ top + wordOf (f ∷ fs) ≡ (above * 2 ^ (top - lowOf f) + valueOf f) * 2 ^ lowOf f + wordOf fs
 regroup top above f fs h =
     ap (λ (x : ℕ). x + wordOf (f ∷ fs)) (shift-by-way above h)
-    ∙ sym (add-assoc (above * 2 ^ (top - f .low) * 2 ^ f .low) (f .value * 2 ^ f .low) (wordOf fs))
-    ∙ ap (λ (x : ℕ). x + wordOf fs) (sym (add-mul (above * 2 ^ (top - f .low)) (f .value) (2 ^ f .low)))
+    ∙ sym (add-assoc (above * 2 ^ (top - lowOf f) * 2 ^ lowOf f) (valueOf f * 2 ^ lowOf f) (wordOf fs))
+    ∙ ap (λ (x : ℕ). x + wordOf fs) (sym (add-mul (above * 2 ^ (top - lowOf f)) (valueOf f) (2 ^ lowOf f)))
 
 -- each field's bits of a word hold its value
 abbrev pub AllBack : ℕ → List Field → Type 0
 AllBack word [] = Unit {0}
-AllBack word (f ∷ fs) = (fieldOf word (f .high) (f .low) ≡ f .value) × AllBack word fs
+AllBack word (f ∷ fs) = (fieldOf word (highOf f) (lowOf f) ≡ valueOf f) × AllBack word fs
 
-first-back : (above width : ℕ) (f : Field) (rest : ℕ) → widthOf (f .high) (f .low) ≤ width → f .value < 2 ^ widthOf (f .high) (f .low)
-    → rest < 2 ^ f .low → fieldOf ((above * 2 ^ width + f .value) * 2 ^ f .low + rest) (f .high) (f .low) ≡ f .value
+first-back : (above width : ℕ) (f : Field) (rest : ℕ) → widthOf (highOf f) (lowOf f) ≤ width → valueOf f < 2 ^ widthOf (highOf f) (lowOf f)
+    → rest < 2 ^ lowOf f → fieldOf ((above * 2 ^ width + valueOf f) * 2 ^ lowOf f + rest) (highOf f) (lowOf f) ≡ valueOf f
 first-back above width f rest hw hv hr =
-    ap (λ (x : ℕ). x % 2 ^ widthOf (f .high) (f .low)) (high (above * 2 ^ width + f .value) (f .low) hr)
-    ∙ ap (λ (x : ℕ). (x + f .value) % 2 ^ widthOf (f .high) (f .low)) (shift-by-way above hw)
-    ∙ low (above * 2 ^ (width - widthOf (f .high) (f .low))) (widthOf (f .high) (f .low)) hv
+    ap (λ (x : ℕ). x % 2 ^ widthOf (highOf f) (lowOf f)) (high (above * 2 ^ width + valueOf f) (lowOf f) hr)
+    ∙ ap (λ (x : ℕ). (x + valueOf f) % 2 ^ widthOf (highOf f) (lowOf f)) (shift-by-way above hw)
+    ∙ low (above * 2 ^ (width - widthOf (highOf f) (lowOf f))) (widthOf (highOf f) (lowOf f)) hv
 
 back-from : (top above : ℕ) (fs : List Field) → T (ordered top fs) → T (fitting fs) → AllBack (above * 2 ^ top + wordOf fs) fs
 back-from top above [] o t = tt
 back-from top above (f ∷ fs) o t =
-    let rest = word-below (f .low) fs (rest-ordered top f fs o) (rest-fits f fs t) in
+    let rest = word-below (lowOf f) fs (rest-ordered top f fs o) (rest-fits f fs t) in
     let same = regroup top above f fs (low≤top top f fs o) in (
-      ap (λ (w : ℕ). fieldOf w (f .high) (f .low)) same
-          ∙ first-back above (top - f .low) f (wordOf fs) (width≤ top f fs o) (value-fits f fs t) rest,
+      ap (λ (w : ℕ). fieldOf w (highOf f) (lowOf f)) same
+          ∙ first-back above (top - lowOf f) f (wordOf fs) (width≤ top f fs o) (value-fits f fs t) rest,
       subst (λ (w : ℕ). AllBack w fs) (sym same)
-          (back-from (f .low) (above * 2 ^ (top - f .low) + f .value) fs (rest-ordered top f fs o) (rest-fits f fs t)),
+          (back-from (lowOf f) (above * 2 ^ (top - lowOf f) + valueOf f) fs (rest-ordered top f fs o) (rest-fits f fs t)),
     )
 
 -- THE ROUND TRIP of layouts: taking the word of the fields apart gives the fields' values
@@ -98,14 +116,14 @@ all-back top fs o t = subst (λ (w : ℕ). AllBack w fs) (ap (λ (x : ℕ). x + 
 
 -- a field at its bits, below the top and within 64 bits
 module _ (top : ℕ) (f : Field) (fs : List Field) where
-  placed-below : T (ordered top (f ∷ fs)) → T (fitting (f ∷ fs)) → f .value * 2 ^ f .low < 2 ^ top
+  placed-below : T (ordered top (f ∷ fs)) → T (fitting (f ∷ fs)) → valueOf f * 2 ^ lowOf f < 2 ^ top
   placed-below o t =
-      subst (λ (k : ℕ). f .value * 2 ^ f .low < 2 ^ k) (sub-add-cancel (low≤top top f fs o))
-      (shl-lt (top - f .low) (f .low) (value-below top f fs o t))
+      subst (λ (k : ℕ). valueOf f * 2 ^ lowOf f < 2 ^ k) (sub-add-cancel (low≤top top f fs o))
+      (shl-lt (top - lowOf f) (lowOf f) (value-below top f fs o t))
 
-  placed-fits : top ≤ 64 → T (ordered top (f ∷ fs)) → T (fitting (f ∷ fs)) → placedOf (f .value) (f .high) (f .low) ≡ f .value * 2 ^ f .low
+  placed-fits : top ≤ 64 → T (ordered top (f ∷ fs)) → T (fitting (f ∷ fs)) → placedOf (valueOf f) (highOf f) (lowOf f) ≡ valueOf f * 2 ^ lowOf f
   placed-fits h o t =
-      ap (λ (v : ℕ). v * 2 ^ f .low % 2 ^ 64) (mod-eq-of-lt (value-fits f fs t))
+      ap (λ (v : ℕ). v * 2 ^ lowOf f % 2 ^ 64) (mod-eq-of-lt (value-fits f fs t))
       ∙ mod-eq-of-lt (lt-of-lt-of-le (placed-below o t) (pow-mono h))
 
 -- within 64 bits `|` of the fields is their word
@@ -115,10 +133,10 @@ joined-from top above [] h o t = sym (add-zero (above * 2 ^ top))
 joined-from top above (f ∷ fs) h o t =
     ap (λ (w : ℕ). joinedFrom w fs)
     (ap (bitOr (above * 2 ^ top)) (placed-fits top f fs h o t)
-    ∙ or-shifted above top (f .value * 2 ^ f .low) (placed-below top f fs o t)
-    ∙ ap (λ (x : ℕ). x + f .value * 2 ^ f .low) (shift-by-way above (low≤top top f fs o))
-    ∙ sym (add-mul (above * 2 ^ (top - f .low)) (f .value) (2 ^ f .low)))
-    ∙ joined-from (f .low) (above * 2 ^ (top - f .low) + f .value) fs (omega (arith, low≤top top f fs o)) (rest-ordered top f fs o) (rest-fits f fs t)
+    ∙ or-shifted above top (valueOf f * 2 ^ lowOf f) (placed-below top f fs o t)
+    ∙ ap (λ (x : ℕ). x + valueOf f * 2 ^ lowOf f) (shift-by-way above (low≤top top f fs o))
+    ∙ sym (add-mul (above * 2 ^ (top - lowOf f)) (valueOf f) (2 ^ lowOf f)))
+    ∙ joined-from (lowOf f) (above * 2 ^ (top - lowOf f) + valueOf f) fs (omega (arith, low≤top top f fs o)) (rest-ordered top f fs o) (rest-fits f fs t)
     ∙ sym (regroup top above f fs (low≤top top f fs o))
 
 -- the fields put together by `|`, from nothing, are their word

@@ -6,34 +6,43 @@ use lib.Bits.{bitOr}
 use lib.Dec.{leb, ltb}
 use Rattle.bits.specs.Field.{widthOf, digit, placedOf}
 
-pub record Field : Type 0 where
-  pub high : ℕ
-  pub low : ℕ
-  pub value : ℕ
+-- a number at bits high:low, or a yes or no at one bit
+pub data Field : Type 0 where
+  at : ℕ → ℕ → ℕ → Field
+  flagAt : ℕ → Bool → Field
 
--- a number at bits high:low, and a yes or no at one bit
-abbrev pub at : ℕ → ℕ → ℕ → Field
-at high low value = record { high = high; low = low; value = value }
+abbrev pub highOf : Field → ℕ
+highOf (at high low value) = high
+highOf (flagAt n b) = n
 
-abbrev pub flagAt : ℕ → Bool → Field
-flagAt n b = at n n (digit b)
+abbrev pub lowOf : Field → ℕ
+lowOf (at high low value) = low
+lowOf (flagAt n b) = n
+
+abbrev pub valueOf : Field → ℕ
+valueOf (at high low value) = value
+valueOf (flagAt n b) = digit b
 
 -- the word that the fields make: each at its bits, every other bit 0
 abbrev pub wordOf : List Field → ℕ
 wordOf [] = 0
-wordOf (f ∷ fs) = f .value * 2 ^ f .low + wordOf fs
+wordOf (f ∷ fs) = valueOf f * 2 ^ lowOf f + wordOf fs
 
--- each value fits its bits
+-- each number fits its bits, counted on from a test of what came before; a yes or no always fits
+abbrev pub fittingAfter : Bool → List Field → Bool
+fittingAfter before [] = before
+fittingAfter before (at high low value ∷ fs) = fittingAfter (before && ltb value (2 ^ widthOf high low)) fs
+fittingAfter before (flagAt n b ∷ fs) = fittingAfter before fs
+
 abbrev pub fitting : List Field → Bool
-fitting [] = true
-fitting (f ∷ fs) = ltb (f .value) (2 ^ widthOf (f .high) (f .low)) && fitting fs
+fitting fs = fittingAfter true fs
 
 -- the fields stand below bit `top`, each below the one before it
 abbrev pub ordered : ℕ → List Field → Bool
 ordered top [] = true
-ordered top (f ∷ fs) = leb (f .low) (f .high) && ltb (f .high) top && ordered (f .low) fs
+ordered top (f ∷ fs) = leb (lowOf f) (highOf f) && ltb (highOf f) top && ordered (lowOf f) fs
 
 -- the fields put together by `|`, each cut to its bits
 abbrev pub joinedFrom : ℕ → List Field → ℕ
 joinedFrom word [] = word
-joinedFrom word (f ∷ fs) = joinedFrom (bitOr word (placedOf (f .value) (f .high) (f .low))) fs
+joinedFrom word (f ∷ fs) = joinedFrom (bitOr word (placedOf (valueOf f) (highOf f) (lowOf f))) fs

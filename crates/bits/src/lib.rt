@@ -1,7 +1,7 @@
 // The bits of a word by their numbers in the manual: `field(word, 19, 17)` is what the manual writes as word<19:17>.
 // Every function has an answer for every argument: bits that a word doesn't have are 0.
 ghost use mathlib.Core.Path.{_≡_};
-ghost use Prim.Native.Nat.{_%_, _^_};
+ghost use Prim.Native.Nat.{_+_, _%_, _^_, min};
 ghost use Rattle.bits.specs.Field.{widthOf, fieldOf, bitOf, digit, placedOf};
 
 // How many bits high:low are.
@@ -35,6 +35,24 @@ pub fn field(word: u64, high: u32, low: u32) -> u64
     }
 }
 
+// The smaller of two numbers.
+fn least(a: u32, b: u32) -> u32
+    ensures { λ r. ⌜ r ≡ min a b ⌝ }
+{
+    if a < b { a } else { b }
+}
+
+// Bits high:low of a word, of which only the lowest 32 count, as a u32.
+pub fn field32(word: u64, high: u32, low: u32) -> u32
+    ensures { λ r. ⌜ r ≡ fieldOf word (min high (low + 31)) low ⌝ }
+{
+    if low < 64 {
+        field(word, least(high, low + 31), low) as u32
+    } else {
+        0
+    }
+}
+
 // Whether one bit of a word is 1.
 pub fn bit(word: u64, at: u32) -> bool
     ensures { λ r. ⌜ r ≡ bitOf word at ⌝ }
@@ -43,11 +61,11 @@ pub fn bit(word: u64, at: u32) -> bool
 }
 
 // A value cut to bits high:low of a word, all other bits 0.
-pub fn place(value: u64, high: u32, low: u32) -> u64
+pub fn place(value: u32, high: u32, low: u32) -> u64
     ensures { λ r. ⌜ r ≡ placedOf value high low ⌝ }
 {
     if low < 64 {
-        cut(value, width(high, low)) << low
+        cut(value as u64, width(high, low)) << low
     } else {
         0
     }
@@ -57,5 +75,5 @@ pub fn place(value: u64, high: u32, low: u32) -> u64
 pub fn flag(value: bool, at: u32) -> u64
     ensures { λ r. ⌜ r ≡ placedOf (digit value) at at ⌝ }
 {
-    place(value as u64, at, at)
+    place(value as u32, at, at)
 }

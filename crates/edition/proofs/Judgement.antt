@@ -2,7 +2,8 @@
 -- Assumes nothing.
 use mathlib.Core.Path.{_≡_, refl, _∙_, sym}
 use mathlib.Core.Bool.{Bool, true, false, true≢false}
-use mathlib.Core.Logic.{_⊎_, inl, inr}
+use mathlib.Core.Logic.{_⊎_, inl, inr, ⊎-elim}
+use native.Mathlib.Omega.{arith}
 use Prim.Native.Nat.{ℕ, _<_}
 use borrow.Author.Tests.{eq-eqb, ne-eqb}
 use lib.Count.{ones}
@@ -51,3 +52,11 @@ module _ (has : ℕ → Bool) (e : ℕ) (is : e < editions) where
       by true h found = inl (h, judge-taken h)
       by false h (inl z) = inr (inl (mask-zero editions has z, judge-none z))
       by false h (inr found) = inr (inr (h, found, judge-other h (found .0) (found .1) (found .2)))
+
+  -- what is taken, the edition has
+  pub taken-has : judgeOf e (maskOf has) ≡ Taken → has e ≡ true
+  taken-has t =
+      ⊎-elim (λ yes. yes .0)
+      (⊎-elim (λ none. let z : _≡_ {A = ℕ} 0 1 = cc (t, none .1) in absurd (omega arith))
+      (λ other. let z : _≡_ {A = ℕ} 0 1 = cc (t, other .2) in absurd (omega arith)))
+      judge-cases

@@ -13,11 +13,9 @@ use lib.Dec.{eqb, lit<}
 use lib.Pow.{pow-pos, pow-mono, pow-add, high, field}
 use Rattle.bits.specs.Field.{widthOf, fieldOf, bitOf, digit}
 use Rattle.bits.proofs.Powers.{shift-by-way}
-use Rattle.edition.specs.Mask.{maskBelow}
-
-pub digit-below : (b : Bool) → digit b < 2
-digit-below true = lit< tt
-digit-below false = lit< tt
+use Rattle.bits.proofs.Fields.{digit-below}
+use Rattle.edition.specs.Feature.{editions}
+use Rattle.edition.specs.Mask.{maskBelow, maskOf}
 
 -- a bit says its yes or no again
 pub digit-back : (b : Bool) → eqb (digit b) 1 ≡ b
@@ -49,6 +47,10 @@ mask-and zero p q = refl
 mask-and (suc n) p q =
     and-block n (digit (p n)) (digit (q n)) (maskBelow n p) (maskBelow n q) (mask-below n p) (mask-below n q)
     ∙ ap₂ (λ (d m : ℕ). d * 2 ^ n + m) (digit-and (p n) (q n)) (mask-and n p q)
+
+pub both-masks : (p q : ℕ → Bool) → bitAnd (maskOf p) (maskOf q) ≡ maskOf (λ e. p e && q e)
+unfolding maskOf
+both-masks p q = mask-and editions p q
 
 -- no test, no bit
 pub mask-none : (n : ℕ) → maskBelow n (λ e. false) ≡ 0

@@ -1,0 +1,5 @@
+pub mod Or
+pub mod Arm
+pub mod Editions
+pub mod Records
+pub mod Steps

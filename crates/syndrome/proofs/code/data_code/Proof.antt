@@ -1,0 +1,23 @@
+use borrow.Author.Needs.{needs}
+use Rattle.bits.proofs.Table.{at-entry}
+use Rattle.edition.specs.Mask.{maskOf}
+use Rattle.syndrome.specs.Code.{dataCode}
+use Rattle.syndrome.proofs.Editions.{no-code, empty-mask}
+use Rattle.syndrome.proofs.code.data_code.Statement.{statement}
+use Rattle.syndrome.proofs.code.data_code.Tie as tie
+
+mul-result : tie.Need-mul-result
+mul-result c = search needs
+
+array-read-result : tie.Need-array-read-result
+array-read-result c = search needs
+
+returns : tie.Need-returns
+unfolding maskOf
+returns c = at-entry 64 (λ k. maskOf (λ e. dataCode e k)) (c .before .args .code) (c .if1 .taken)
+
+returns-2 : tie.Need-returns-2
+returns-2 c = empty-mask _ (λ e. no-code e (c .before .args .code) (c .if1 .left))
+
+pub data-code-spec : {M : Type 1} → statement M
+data-code-spec = tie.close (tie.spec mul-result array-read-result returns returns-2)

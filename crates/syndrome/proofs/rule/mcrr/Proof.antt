@@ -1,0 +1,12 @@
+use borrow.Author.Needs.{needs}
+use Rattle.syndrome.proofs.rule.mcrr.Statement.{statement}
+use Rattle.syndrome.proofs.rule.mcrr.Tie as tie
+
+conditional-requires : tie.Need-conditional-requires
+conditional-requires c κs = search needs
+
+returns : tie.Need-returns
+returns c = rw (c .conditional .ensures)
+
+pub mcrr-spec : {M : Type 1} → statement M
+mcrr-spec = tie.close (tie.spec conditional-requires returns)

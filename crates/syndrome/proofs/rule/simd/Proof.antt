@@ -1,0 +1,12 @@
+use borrow.Author.Needs.{needs}
+use Rattle.syndrome.proofs.rule.simd.Statement.{statement}
+use Rattle.syndrome.proofs.rule.simd.Tie as tie
+
+conditional-requires : tie.Need-conditional-requires
+conditional-requires c κs = search needs
+
+returns : tie.Need-returns
+returns c = rw (c .conditional .ensures)
+
+pub simd-spec : {M : Type 1} → statement M
+simd-spec = tie.close (tie.spec conditional-requires returns)

@@ -1,0 +1,15 @@
+use borrow.Author.Needs.{needs}
+use Rattle.syndrome.proofs.split.call.Statement.{statement}
+use Rattle.syndrome.proofs.split.call.Tie as tie
+
+bit-requires : tie.Need-bit-requires
+bit-requires c κs = search needs
+
+field32-requires : tie.Need-field32-requires
+field32-requires c κs = search needs
+
+returns : tie.Need-returns
+returns c = cc
+
+pub call-spec : {M : Type 1} → statement M
+call-spec = tie.close (tie.spec bit-requires field32-requires returns)

@@ -1,0 +1,68 @@
+use borrow.Author.Needs.{needs}
+use Rattle.syndrome.proofs.split.data_abort.Statement.{statement}
+use Rattle.syndrome.proofs.split.data_abort.Tie as tie
+
+bit-requires : tie.Need-bit-requires
+bit-requires c κs = search needs
+
+bit-requires-2 : tie.Need-bit-requires-2
+bit-requires-2 c κs = search needs
+
+field32-requires : tie.Need-field32-requires
+field32-requires c κs = search needs
+
+bit-requires-3 : tie.Need-bit-requires-3
+bit-requires-3 c κs = search needs
+
+field32-requires-2 : tie.Need-field32-requires-2
+field32-requires-2 c κs = search needs
+
+bit-requires-4 : tie.Need-bit-requires-4
+bit-requires-4 c κs = search needs
+
+bit-requires-5 : tie.Need-bit-requires-5
+bit-requires-5 c κs = search needs
+
+field32-requires-3 : tie.Need-field32-requires-3
+field32-requires-3 c κs = search needs
+
+bit-requires-6 : tie.Need-bit-requires-6
+bit-requires-6 c κs = search needs
+
+bit-requires-7 : tie.Need-bit-requires-7
+bit-requires-7 c κs = search needs
+
+bit-requires-8 : tie.Need-bit-requires-8
+bit-requires-8 c κs = search needs
+
+bit-requires-9 : tie.Need-bit-requires-9
+bit-requires-9 c κs = search needs
+
+bit-requires-10 : tie.Need-bit-requires-10
+bit-requires-10 c κs = search needs
+
+field32-requires-4 : tie.Need-field32-requires-4
+field32-requires-4 c κs = search needs
+
+returns : tie.Need-returns
+returns c = cc
+
+pub data-abort-spec : {M : Type 1} → statement M
+data-abort-spec =
+    tie.close
+    (tie.spec
+    bit-requires
+    bit-requires-2
+    field32-requires
+    bit-requires-3
+    field32-requires-2
+    bit-requires-4
+    bit-requires-5
+    field32-requires-3
+    bit-requires-6
+    bit-requires-7
+    bit-requires-8
+    bit-requires-9
+    bit-requires-10
+    field32-requires-4
+    returns)

@@ -1,0 +1,12 @@
+use borrow.Author.Needs.{needs}
+use Rattle.syndrome.proofs.split.plain.Statement.{statement}
+use Rattle.syndrome.proofs.split.plain.Tie as tie
+
+bit-requires : tie.Need-bit-requires
+bit-requires c κs = search needs
+
+returns : tie.Need-returns
+returns c = cc
+
+pub plain-spec : {M : Type 1} → statement M
+plain-spec = tie.close (tie.spec bit-requires returns)

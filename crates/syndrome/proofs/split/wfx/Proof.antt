@@ -1,0 +1,21 @@
+use borrow.Author.Needs.{needs}
+use Rattle.syndrome.proofs.split.wfx.Statement.{statement}
+use Rattle.syndrome.proofs.split.wfx.Tie as tie
+
+bit-requires : tie.Need-bit-requires
+bit-requires c κs = search needs
+
+bit-requires-2 : tie.Need-bit-requires-2
+bit-requires-2 c κs = search needs
+
+field32-requires : tie.Need-field32-requires
+field32-requires c κs = search needs
+
+bit-requires-3 : tie.Need-bit-requires-3
+bit-requires-3 c κs = search needs
+
+returns : tie.Need-returns
+returns c = cc
+
+pub wfx-spec : {M : Type 1} → statement M
+wfx-spec = tie.close (tie.spec bit-requires bit-requires-2 field32-requires bit-requires-3 returns)
