@@ -3,3 +3,11 @@ pub mod Arm
 pub mod Editions
 pub mod Records
 pub mod Steps
+pub mod RoundTrip
+pub mod Words
+pub mod Reading
+pub mod Writing
+pub mod Demand2
+pub mod Refusal6
+pub mod Demand3
+pub mod NotEmpty

@@ -6,3 +6,4 @@ pub mod Code
 pub mod Has
 pub mod Split
 pub mod Answer
+pub mod Carry

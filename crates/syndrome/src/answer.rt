@@ -12,3 +12,9 @@ pub enum Written {
     Word(Esr),
     Refused(Refusal),
 }
+
+// A record written in one edition and read in another: the writer's refusal, or what the reader answers.
+pub enum Carried {
+    Unwritten(Refusal),
+    Read(Read),
+}

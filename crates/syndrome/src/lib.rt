@@ -6,6 +6,7 @@ ghost use mathlib.Core.Path.{_≡_};
 ghost use Prim.Native.Nat.{ℕ};
 ghost use Rattle.edition.specs.Mask.{maskOf};
 ghost use Rattle.syndrome.specs.Answer.{makes, readRecord, readOf, writeOf};
+ghost use Rattle.syndrome.specs.Carry.{carriedOf};
 
 mod answer;
 mod class;
@@ -15,6 +16,7 @@ mod record;
 mod rule;
 mod split;
 
+pub use answer::Carried;
 pub use answer::Read;
 pub use answer::Written;
 use edition::Refusal;
@@ -89,5 +91,15 @@ pub fn write(edition: u32, r: Record) -> Written
     match edition::judge(edition, code::editions(r)) {
         Verdict::Taken => Written::Word(Esr(join::joined(r))),
         Verdict::Refused(refusal) => Written::Refused(refusal),
+    }
+}
+
+// Writes a record in one edition and reads the word in another: the very record where the reader's edition has it, else refusal 6.
+pub fn carry(writer: u32, reader: u32, r: Record) -> Carried
+    ensures { λ c. ⌜ c ≡ carriedOf writer reader r ⌝ }
+{
+    match write(writer, r) {
+        Written::Word(esr) => Carried::Read(read(reader, esr)),
+        Written::Refused(refusal) => Carried::Unwritten(refusal),
     }
 }

@@ -1,0 +1,39 @@
+use borrow.Author.Needs.{needs}
+use mathlib.Core.Path.{_∙_, sym, ap}
+use Rattle.syndrome.specs.Carry.{carriedFrom, carriedOf}
+use Rattle.syndrome.specs.declared.answer.Carried.{Carried}
+use Rattle.syndrome.proofs.Demand3.{read-back}
+use Rattle.syndrome.proofs.carry.Statement.{statement}
+use Rattle.syndrome.proofs.carry.Tie as tie
+
+write-requires : tie.Need-write-requires
+write-requires c κs = search needs
+
+enum-known-esr : tie.Need-enum-known-esr
+enum-known-esr c = search needs
+
+read-requires : tie.Need-read-requires
+read-requires c κs = search needs
+
+enum-known-refusal : tie.Need-enum-known-refusal
+enum-known-refusal c = search needs
+
+returns : tie.Need-returns
+unfolding carriedOf
+returns c =
+    let a = c .before .before .before .before .before .args in
+    let told = c .before .before .esr .given in
+    let put = sym (c .before .before .before .before .write .ensures) ∙ told .1 in
+    ap Carried.Read (c .read .ensures ∙ read-back (a .writer) (a .reader) (told .0 .0 .0) (a .r) put)
+    ∙ sym (ap (carriedFrom (a .reader) (a .r)) put)
+
+returns-2 : tie.Need-returns-2
+unfolding carriedOf
+returns-2 c =
+    let a = c .before .before .before .before .args in
+    sym (ap (carriedFrom (a .reader) (a .r)) (sym (c .before .before .before .write .ensures) ∙ c .before .refusal .given .1))
+
+pub carry-spec : {M : Type 1} → statement M
+carry-spec =
+    tie.close
+    (tie.spec write-requires enum-known-esr read-requires enum-known-refusal returns returns-2)
