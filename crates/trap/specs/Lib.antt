@@ -1,0 +1,4 @@
+pub mod Known
+pub mod Page
+pub mod Trap
+pub mod Answer
