@@ -1,2 +1,5 @@
 pub mod Pages
 pub mod Steps
+pub mod Addresses
+pub mod Ignored
+pub mod Agreement

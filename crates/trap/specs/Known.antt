@@ -38,3 +38,16 @@ hpfarCounts (Record.Call r) = false
 hpfarCounts (Record.Smc r) = false
 hpfarCounts (Record.InstructionAbort r) = intermediateKnown (r .s1ptw) (r .code)
 hpfarCounts (Record.DataAbort r) = intermediateKnown (r .s1ptw) (r .code)
+
+-- S1PTW of an abort; every other class has none
+abbrev pub s1ptwOf : Record → Bool
+s1ptwOf (Record.Plain r) = false
+s1ptwOf (Record.Wfx r) = false
+s1ptwOf (Record.Mcr r) = false
+s1ptwOf (Record.Mcrr r) = false
+s1ptwOf (Record.Ldc r) = false
+s1ptwOf (Record.Simd r) = false
+s1ptwOf (Record.Call r) = false
+s1ptwOf (Record.Smc r) = false
+s1ptwOf (Record.InstructionAbort r) = r .s1ptw
+s1ptwOf (Record.DataAbort r) = r .s1ptw

@@ -2,3 +2,4 @@ pub mod Known
 pub mod Page
 pub mod Trap
 pub mod Answer
+pub mod Shown

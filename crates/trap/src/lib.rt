@@ -7,6 +7,7 @@ ghost use Rattle.trap.specs.Known.{virtualKnown, intermediateKnown, farC
 ghost use Rattle.trap.specs.Page.{pageTop, pageNumber, hpfarRule, farRule};
 ghost use Rattle.trap.specs.Trap.{virtualOf, intermediateOf, abortOf, plainOf, trapOf};
 ghost use Rattle.trap.specs.Answer.{numberOf, maskIn, countIn, answerRecord, answerOf};
+ghost use Rattle.trap.specs.Shown.{bothOf};
 use edition::Refusal;
 use syndrome::Esr;
 use syndrome::Read;
@@ -262,5 +263,24 @@ pub fn read(edition: u32, esr: Esr, far: Far, hpfar: Hpfar) -> Answer
     match syndrome::read(edition, esr) {
         Read::Taken(r) => read_record(edition, r, far.0, hpfar.0),
         Read::Refused(refusal) => Answer::Refused(TrapRefusal::Syndrome(refusal)),
+    }
+}
+
+// One trap in two editions: what both show, or that one of them refuses it.
+pub enum Both {
+    Shown(Trap, Trap),
+    NotBoth,
+}
+
+// Reads a whole trap in two editions: where both show it, they show the same.
+pub fn read_both(first: u32, second: u32, esr: Esr, far: Far, hpfar: Hpfar) -> Both
+    ensures { λ b. ⌜ b ≡ bothOf first second (esr .0) (far .0) (hpfar .0) ⌝ }
+{
+    match read(first, esr, far, hpfar) {
+        Answer::Shown(trap) => match read(second, esr, far, hpfar) {
+            Answer::Shown(other) => Both::Shown(trap, other),
+            Answer::Refused(_) => Both::NotBoth,
+        },
+        Answer::Refused(_) => Both::NotBoth,
     }
 }

@@ -7,6 +7,7 @@ use Rattle.bits.specs.Field.{fieldOf}
 use Rattle.trap.specs.Known.{intermediateKnown}
 use Rattle.trap.specs.Trap.{pageAddress, intermediateOf}
 use Rattle.trap.specs.declared.IntermediateAddress.{IntermediateAddress}
+use Rattle.trap.proofs.Addresses.{intermediate-counted}
 use Rattle.trap.proofs.intermediate_address.Statement.{statement}
 use Rattle.trap.proofs.intermediate_address.Tie as tie
 
@@ -15,9 +16,10 @@ counted : (e : ℕ) (s1ptw : Bool) (code far hpfar : ℕ) {walk : Bool} → inte
     → intermediateOf e s1ptw code far hpfar
     ≡ cond walk (IntermediateAddress.Page (pageAddress e hpfar)) (IntermediateAddress.Byte (pageAddress e hpfar + fieldOf far 11 0))
 counted e s1ptw code far hpfar known walk =
-    let page = IntermediateAddress.Page (pageAddress e hpfar) in
-    let byte = IntermediateAddress.Byte (pageAddress e hpfar + fieldOf far 11 0) in
-    ap (λ (b : Bool). cond b (cond s1ptw page byte) IntermediateAddress.None) known ∙ ap (λ (b : Bool). cond b page byte) walk
+    intermediate-counted e s1ptw code far hpfar known
+    ∙ ap
+    (λ (b : Bool). cond b (IntermediateAddress.Page (pageAddress e hpfar)) (IntermediateAddress.Byte (pageAddress e hpfar + fieldOf far 11 0)))
+    walk
 
 intermediate-known-requires : tie.Need-intermediate-known-requires
 intermediate-known-requires c κs = search needs

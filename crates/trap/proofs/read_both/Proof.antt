@@ -1,0 +1,70 @@
+use borrow.Author.Needs.{needs}
+use mathlib.Core.Path.{_≡_, _∙_, sym, ap, ap₂}
+use Prim.Native.Nat.{ℕ}
+use Rattle.trap.specs.Answer.{answerOf}
+use Rattle.trap.specs.Shown.{bothFrom, bothOf}
+use Rattle.trap.specs.declared.Trap.{Trap}
+use Rattle.trap.specs.declared.Answer.{Answer}
+use Rattle.trap.specs.declared.Both.{Both}
+use Rattle.trap.proofs.Agreement.{same-trap}
+use Rattle.trap.proofs.read_both.Statement.{statement}
+use Rattle.trap.proofs.read_both.Tie as tie
+
+both-shown : (a b esr far hpfar : ℕ) (t s : Trap) → answerOf a esr far hpfar ≡ Answer.Shown t → answerOf b esr far hpfar ≡ Answer.Shown s
+    → Both.Shown t s ≡ bothOf a b esr far hpfar
+unfolding bothOf
+both-shown a b esr far hpfar t s first second =
+    ap (Both.Shown t) (sym (same-trap a b far hpfar esr t s first second)) ∙ sym (ap₂ bothFrom first second)
+
+read-requires : tie.Need-read-requires
+read-requires c κs = search needs
+
+enum-known-trap : tie.Need-enum-known-trap
+enum-known-trap c = search needs
+
+read-requires-2 : tie.Need-read-requires-2
+read-requires-2 c κs = search needs
+
+enum-known-other : tie.Need-enum-known-other
+enum-known-other c = search needs
+
+enum-told : tie.Need-enum-told
+enum-told c = search needs
+
+enum-told-2 : tie.Need-enum-told-2
+enum-told-2 c = search needs
+
+returns : tie.Need-returns
+unfolding bothOf
+returns c =
+    let a = c .before .before .before .before .before .before .before .before .args in
+    let first = sym (c .before .before .before .before .before .before .before .read .ensures) ∙ c .before .before .before .before .before .trap .given .1 in
+    let second = sym (c .before .before .before .read2 .ensures) ∙ c .before .other .given .1 in
+    both-shown (a .first) (a .second) (a .esr .0) (a .far .0) (a .hpfar .0) _ _ first second
+
+returns-2 : tie.Need-returns-2
+unfolding bothOf
+returns-2 c =
+    let first = sym (c .before .before .before .before .before .before .read .ensures) ∙ c .before .before .before .before .trap .given .1 in
+    let second = sym (c .before .before .read2 .ensures) ∙ c .enum-told .given .1 in
+    sym (ap₂ bothFrom first second)
+
+returns-3 : tie.Need-returns-3
+unfolding bothOf
+returns-3 c =
+    let a = c .before .before .before .args in
+    sym (ap (λ (x : Answer). bothFrom x (answerOf (a .second) (a .esr .0) (a .far .0) (a .hpfar .0))) (sym (c .before .before .read .ensures) ∙ c .enum-told2 .given .1))
+
+pub read-both-spec : {M : Type 1} → statement M
+read-both-spec =
+    tie.close
+    (tie.spec
+    read-requires
+    enum-known-trap
+    read-requires-2
+    enum-known-other
+    enum-told
+    enum-told-2
+    returns
+    returns-2
+    returns-3)
