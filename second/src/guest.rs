@@ -1,0 +1,257 @@
+//! The guest's state and the five injections.
+
+use crate::status::Status;
+
+/// What the monitor keeps of a guest: 45 numbers of 32 bits.
+#[derive(Clone, Debug, PartialEq, Eq)]
+pub struct State {
+    pub registers: [u32; 31],
+    pub pc: u32,
+    pub status: u32,
+    pub spsr_fiq: u32,
+    pub spsr_irq: u32,
+    pub spsr_svc: u32,
+    pub spsr_abt: u32,
+    pub spsr_und: u32,
+    pub dfsr: u32,
+    pub ifsr: u32,
+    pub dfar: u32,
+    pub ifar: u32,
+    pub sctlr: u32,
+    pub vbar: u32,
+    pub ttbcr: u32,
+}
+
+impl State {
+    /// The state in the order of the paper.
+    pub fn numbers(&self) -> Vec<u64> {
+        let rest = [
+            self.pc,
+            self.status,
+            self.spsr_fiq,
+            self.spsr_irq,
+            self.spsr_svc,
+            self.spsr_abt,
+            self.spsr_und,
+            self.dfsr,
+            self.ifsr,
+            self.dfar,
+            self.ifar,
+            self.sctlr,
+            self.vbar,
+            self.ttbcr,
+        ];
+        self.registers.into_iter().chain(rest).map(u64::from).collect()
+    }
+
+    fn sctlr(&self) -> Sctlr {
+        let bit = |at: u32| self.sctlr >> at & 1 == 1;
+        Sctlr { te: bit(30), ee: bit(25), v: bit(13) }
+    }
+
+    /// TTBCR.EAE, bit 31, chooses the long format.
+    fn format(&self) -> Format {
+        if self.ttbcr >= 1 << 31 {
+            Format::Long
+        } else {
+            Format::Short
+        }
+    }
+}
+
+/// The bits of SCTLR that exception entry asks about.
+struct Sctlr {
+    te: bool,
+    ee: bool,
+    v: bool,
+}
+
+#[derive(Clone, Copy, Debug, PartialEq, Eq)]
+enum Format {
+    Short,
+    Long,
+}
+
+#[derive(Clone, Copy, Debug, PartialEq, Eq)]
+pub enum Fault {
+    External,
+    Translation(u8),
+    AccessFlag(u8),
+    Permission(u8),
+    Alignment,
+}
+
+#[derive(Clone, Copy, Debug, PartialEq, Eq)]
+pub enum Injection {
+    UndefinedAt,
+    UndefinedAfter,
+    SupervisorCall,
+    PrefetchAbort { fault: Fault, address: u64 },
+    DataAbort { fault: Fault, address: u64, write: bool },
+}
+
+/// The modes that an injection enters.
+#[derive(Clone, Copy)]
+enum Mode {
+    Supervisor,
+    Abort,
+    Undefined,
+}
+
+impl Mode {
+    fn number(self) -> u8 {
+        match self {
+            Mode::Supervisor => 0x13,
+            Mode::Abort => 0x17,
+            Mode::Undefined => 0x1b,
+        }
+    }
+
+    fn spsr(self, state: &mut State) -> &mut u32 {
+        match self {
+            Mode::Supervisor => &mut state.spsr_svc,
+            Mode::Abort => &mut state.spsr_abt,
+            Mode::Undefined => &mut state.spsr_und,
+        }
+    }
+}
+
+/// A row of the table of injections.
+struct Entry {
+    mode: Mode,
+    vector: u32,
+    link: usize,
+    correction_a32: i64,
+    correction_t32: i64,
+}
+
+impl Injection {
+    fn entry(&self) -> Entry {
+        let (mode, vector, link, correction_a32, correction_t32) = match self {
+            Injection::UndefinedAt => (Mode::Undefined, 0x04, 22, 4, 2),
+            Injection::UndefinedAfter => (Mode::Undefined, 0x04, 22, 0, -2),
+            Injection::SupervisorCall => (Mode::Supervisor, 0x08, 18, 0, 0),
+            Injection::PrefetchAbort { .. } => (Mode::Abort, 0x0c, 20, 4, 4),
+            Injection::DataAbort { .. } => (Mode::Abort, 0x10, 20, 8, 8),
+        };
+        Entry { mode, vector, link, correction_a32, correction_t32 }
+    }
+
+    fn is_abort(&self) -> bool {
+        matches!(self, Injection::PrefetchAbort { .. } | Injection::DataAbort { .. })
+    }
+}
+
+/// The status and address that an abort leaves in its two registers.
+enum FaultReport {
+    Instruction { ifsr: u32, ifar: u32 },
+    Data { dfsr: u32, dfar: u32 },
+}
+
+/// The state after the injection, or the number of the refusal.
+pub fn inject(state: &State, injection: &Injection) -> Result<State, u8> {
+    let old = Status::unpack(state.status);
+    if !old.is_accepted() {
+        return Err(9);
+    }
+    if !state.vbar.is_multiple_of(32) {
+        return Err(10);
+    }
+    let report = fault_report(state.format(), injection)?;
+    let mut after = state.clone();
+    enter(&mut after, &old, injection);
+    match report {
+        Some(FaultReport::Instruction { ifsr, ifar }) => (after.ifsr, after.ifar) = (ifsr, ifar),
+        Some(FaultReport::Data { dfsr, dfar }) => (after.dfsr, after.dfar) = (dfsr, dfar),
+        None => {}
+    }
+    Ok(after)
+}
+
+/// Exception entry: the link, the saved status, the new status and PC.
+fn enter(state: &mut State, old: &Status, injection: &Injection) {
+    let entry = injection.entry();
+    let correction = if old.t { entry.correction_t32 } else { entry.correction_a32 };
+    state.registers[entry.link] = modulo_2_32(i64::from(state.pc) + correction);
+    *entry.mode.spsr(state) = state.status;
+    let sctlr = state.sctlr();
+    let new = Status {
+        mode: entry.mode.number(),
+        i: true,
+        a: old.a || injection.is_abort(),
+        t: sctlr.te,
+        e: sctlr.ee,
+        il: false,
+        it: 0,
+        ..*old
+    };
+    state.status = new.pack();
+    let base = if sctlr.v { 0xffff_0000 } else { state.vbar };
+    state.pc = base + entry.vector;
+}
+
+fn modulo_2_32(number: i64) -> u32 {
+    number.rem_euclid(1 << 32) as u32
+}
+
+/// Tests 11 and 12, and what an abort writes when they pass.
+fn fault_report(format: Format, injection: &Injection) -> Result<Option<FaultReport>, u8> {
+    match *injection {
+        Injection::PrefetchAbort { fault, address } => {
+            if fault == Fault::Alignment {
+                return Err(11);
+            }
+            let ifsr = fault_status(format, fault).ok_or(11)?;
+            let ifar = u32::try_from(address).map_err(|_| 12)?;
+            Ok(Some(FaultReport::Instruction { ifsr, ifar }))
+        }
+        Injection::DataAbort { fault, address, write } => {
+            let wnr = u32::from(write) << 11;
+            let dfsr = fault_status(format, fault).ok_or(11)? + wnr;
+            let dfar = u32::try_from(address).map_err(|_| 12)?;
+            Ok(Some(FaultReport::Data { dfsr, dfar }))
+        }
+        _ => Ok(None),
+    }
+}
+
+fn fault_status(format: Format, fault: Fault) -> Option<u32> {
+    match format {
+        // FS[3:0] in bits 3:0, FS[4] in bit 10.
+        Format::Short => short_fs(fault).map(|fs| fs / 16 * 1024 + fs % 16),
+        // LPAE, bit 9, says that the long format is used.
+        Format::Long => long_status(fault).map(|status| 512 + status),
+    }
+}
+
+/// FS of the short format, which has no level 3.
+fn short_fs(fault: Fault) -> Option<u32> {
+    match fault {
+        Fault::External => Some(0b01000),
+        Fault::Translation(1) => Some(0b00101),
+        Fault::Translation(2) => Some(0b00111),
+        Fault::AccessFlag(1) => Some(0b00011),
+        Fault::AccessFlag(2) => Some(0b00110),
+        Fault::Permission(1) => Some(0b01101),
+        Fault::Permission(2) => Some(0b01111),
+        Fault::Alignment => Some(0b00001),
+        _ => None,
+    }
+}
+
+fn long_status(fault: Fault) -> Option<u32> {
+    match fault {
+        Fault::External => Some(0b010000),
+        Fault::Translation(1) => Some(0b000101),
+        Fault::Translation(2) => Some(0b000110),
+        Fault::Translation(3) => Some(0b000111),
+        Fault::AccessFlag(1) => Some(0b001001),
+        Fault::AccessFlag(2) => Some(0b001010),
+        Fault::AccessFlag(3) => Some(0b001011),
+        Fault::Permission(1) => Some(0b001101),
+        Fault::Permission(2) => Some(0b001110),
+        Fault::Permission(3) => Some(0b001111),
+        Fault::Alignment => Some(0b100001),
+        _ => None,
+    }
+}

@@ -1,0 +1,89 @@
+//! The second program: the rules of the paper answered by enumerating records.
+
+#[cfg(feature = "compare")]
+mod bench;
+mod cases;
+mod catalogue;
+#[cfg(feature = "compare")]
+mod compare;
+mod edition;
+mod enumerate;
+mod guest;
+mod kinds;
+#[cfg(any(feature = "compare", test))]
+mod ordinary;
+#[cfg(feature = "compare")]
+mod proved;
+mod random;
+mod record;
+mod status;
+mod syndrome;
+#[cfg(feature = "compare")]
+mod table;
+#[cfg(feature = "compare")]
+mod tally;
+mod text;
+mod trap;
+mod vectors;
+
+use std::env;
+use std::io;
+use std::path::Path;
+use std::process::ExitCode;
+
+const USAGE: &str = "\
+usage: second vectors DIR
+       second check DIR
+       second compare [FIRST LAST [STRIDE]]
+       second bench
+The last two need the feature `compare`.";
+
+fn main() -> ExitCode {
+    let arguments: Vec<String> = env::args().skip(1).collect();
+    let words: Vec<&str> = arguments.iter().map(String::as_str).collect();
+    match run(&words) {
+        Ok(true) => ExitCode::SUCCESS,
+        Ok(false) => ExitCode::FAILURE,
+        Err(error) => {
+            eprintln!("second: {error}");
+            ExitCode::from(2)
+        }
+    }
+}
+
+fn usage() -> io::Error {
+    io::Error::new(io::ErrorKind::InvalidInput, USAGE)
+}
+
+/// True when the command found everything as it should be.
+fn run(words: &[&str]) -> io::Result<bool> {
+    match words {
+        ["vectors", directory] => vectors::write(Path::new(directory)),
+        ["check", directory] => vectors::check(Path::new(directory)),
+        #[cfg(feature = "compare")]
+        ["compare", range @ ..] => compare_range(range),
+        #[cfg(feature = "compare")]
+        ["bench"] => {
+            bench::bench();
+            Ok(true)
+        }
+        _ => Err(usage()),
+    }
+}
+
+/// The first and last class are hexadecimal, the stride is decimal.
+#[cfg(feature = "compare")]
+fn compare_range(range: &[&str]) -> io::Result<bool> {
+    let class = |word| u8::from_str_radix(word, 16).map_err(|_| usage());
+    let stride = |word: &str| word.parse().map_err(|_| usage());
+    let (first, last, stride) = match *range {
+        [] => (0, 0x3f, 1),
+        [first, last] => (class(first)?, class(last)?, 1),
+        [first, last, every] => (class(first)?, class(last)?, stride(every)?),
+        _ => return Err(usage()),
+    };
+    if first > last || last > 0x3f || stride == 0 {
+        return Err(usage());
+    }
+    Ok(compare::compare(first..=last, stride))
+}
