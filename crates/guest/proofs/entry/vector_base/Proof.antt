@@ -1,0 +1,20 @@
+-- `guest::entry::vector_base` meets its contract: its branch is the test of SCTLR.V.
+use mathlib.Core.Path.{sym, ap, _∙_}
+use mathlib.Core.Bool.{Bool, cond}
+use borrow.Author.Needs.{needs}
+use Rattle.guest.proofs.entry.vector_base.Statement.{statement}
+use Rattle.guest.proofs.entry.vector_base.Tie as tie
+
+is-set-requires : tie.Need-is-set-requires
+is-set-requires c κs = search needs
+
+returns : tie.Need-returns
+returns c =
+    ap (λ (b : Bool). cond b 0xFFFF_0000 (c .before .before .args .vbar)) (sym (c .if1 .taken) ∙ c .before .is-set .ensures)
+
+returns-2 : tie.Need-returns-2
+returns-2 c =
+    ap (λ (b : Bool). cond b 0xFFFF_0000 (c .before .before .args .vbar)) (sym (c .if1 .left) ∙ c .before .is-set .ensures)
+
+pub vector-base-spec : {M : Type 1} → statement M
+vector-base-spec = tie.close (tie.spec is-set-requires returns returns-2)

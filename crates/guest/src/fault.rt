@@ -1,0 +1,139 @@
+// The fault status registers, DFSR and IFSR.
+ghost use mathlib.Core.Path.{_≡_};
+ghost use Rattle.guest.specs.Fault.{byLevel, rowOf, codeOf, wordOf, faultStatus, dataOnly, ifsrWord, dfsrWord};
+use crate::bits::is_set;
+use crate::injection::Access;
+use crate::injection::Fetch;
+
+// A fault with the level of the lookup that gave it, where the fault has a level.
+pub enum Fault {
+    External,
+    Translation(u8),
+    AccessFlag(u8),
+    Permission(u8),
+    Alignment,
+}
+
+// How a fault is written in a code field or in a register, or that it can't be.
+pub enum Encoding {
+    Code(u32),
+    Unwritable,
+}
+
+// A row of the table: FS of the short format, STATUS of the long.
+struct Row {
+    short: Encoding,
+    long: Encoding,
+}
+
+// The code of a level: those of levels 1 and 2, and what stands at level 3.
+fn by_level(level: u8, first: u32, second: u32, third: Encoding) -> Encoding
+    ensures { λ r. ⌜ r ≡ byLevel level first second third ⌝ }
+{
+    match level {
+        1 => Encoding::Code(first),
+        2 => Encoding::Code(second),
+        3 => third,
+        _ => Encoding::Unwritable,
+    }
+}
+
+fn row_of(fault: Fault) -> Row
+    ensures { λ r. ⌜ r ≡ rowOf fault ⌝ }
+{
+    match fault {
+        Fault::External => Row {
+            short: Encoding::Code(0b01000),
+            long: Encoding::Code(0b010000),
+        },
+        Fault::Translation(l) => Row {
+            short: by_level(l, 0b00101, 0b00111, Encoding::Unwritable),
+            long: by_level(l, 0b000101, 0b000110, Encoding::Code(0b000111)),
+        },
+        Fault::AccessFlag(l) => Row {
+            short: by_level(l, 0b00011, 0b00110, Encoding::Unwritable),
+            long: by_level(l, 0b001001, 0b001010, Encoding::Code(0b001011)),
+        },
+        Fault::Permission(l) => Row {
+            short: by_level(l, 0b01101, 0b01111, Encoding::Unwritable),
+            long: by_level(l, 0b001101, 0b001110, Encoding::Code(0b001111)),
+        },
+        Fault::Alignment => Row {
+            short: Encoding::Code(0b00001),
+            long: Encoding::Code(0b100001),
+        },
+    }
+}
+
+// The code's column.
+fn code_of(fault: Fault, long: bool) -> Encoding
+    ensures { λ r. ⌜ r ≡ codeOf fault long ⌝ }
+{
+    let row = row_of(fault);
+    if long { row.long } else { row.short }
+}
+
+// The code in its place. Long: bit 9 marks the format, STATUS is in bits 5:0. Short: FS bit 4 is in bit 10, FS 3:0 in
+// bits 3:0.
+fn word_of(code: u32, long: bool) -> u32
+    ensures { λ r. ⌜ r ≡ wordOf code long ⌝ }
+{
+    if long {
+        (code & 0x3F) | 0x200
+    } else {
+        ((code & 0x10) << 6) | (code & 0xF)
+    }
+}
+
+// The fault in the format that TTBCR.EAE chooses.
+pub fn fault_status(fault: Fault, ttbcr: u32) -> Encoding
+    ensures { λ r. ⌜ r ≡ faultStatus fault ttbcr ⌝ }
+{
+    let long = is_set(ttbcr, 31);
+    match code_of(fault, long) {
+        Encoding::Code(code) => Encoding::Code(word_of(code, long)),
+        Encoding::Unwritable => Encoding::Unwritable,
+    }
+}
+
+// A fault that no instruction fetch has.
+fn is_data_only(fault: Fault) -> bool
+    ensures { λ r. ⌜ r ≡ dataOnly fault ⌝ }
+{
+    match fault {
+        Fault::External => false,
+        Fault::Translation(_) => false,
+        Fault::AccessFlag(_) => false,
+        Fault::Permission(_) => false,
+        Fault::Alignment => true,
+    }
+}
+
+// IFSR of a prefetch abort.
+pub fn ifsr_word(fetch: Fetch, ttbcr: u32) -> Encoding
+    ensures { λ r. ⌜ r ≡ ifsrWord fetch ttbcr ⌝ }
+{
+    let fault = fetch.fault;
+    if is_data_only(fault) {
+        Encoding::Unwritable
+    } else {
+        fault_status(fault, ttbcr)
+    }
+}
+
+// DFSR of a data abort: WnR, bit 11, is set for a write.
+pub fn dfsr_word(access: Access, ttbcr: u32) -> Encoding
+    ensures { λ r. ⌜ r ≡ dfsrWord access ttbcr ⌝ }
+{
+    let fault = access.fault;
+    match fault_status(fault, ttbcr) {
+        Encoding::Code(word) => {
+            if access.write {
+                Encoding::Code(word | 0x800)
+            } else {
+                Encoding::Code(word)
+            }
+        }
+        Encoding::Unwritable => Encoding::Unwritable,
+    }
+}

@@ -1,0 +1,25 @@
+// What the monitor keeps of a guest. Every word is 32 bits wide.
+
+// The saved program status registers (SPSR) of the modes that an exception is taken to.
+pub struct Saved {
+    pub fiq: u32,
+    pub irq: u32,
+    pub svc: u32,
+    pub abt: u32,
+    pub und: u32,
+}
+
+// `regs` has the guest's registers in the AArch64 numbering, and `status` is its CPSR.
+pub struct Guest {
+    pub regs: [u32; 31],
+    pub pc: u32,
+    pub status: u32,
+    pub saved: Saved,
+    pub dfsr: u32,
+    pub ifsr: u32,
+    pub dfar: u32,
+    pub ifar: u32,
+    pub sctlr: u32,
+    pub vbar: u32,
+    pub ttbcr: u32,
+}
