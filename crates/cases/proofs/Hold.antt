@@ -22,7 +22,7 @@ use Rattle.guest.specs.Status.{isMode, sound, entryStatus}
 use Rattle.guest.specs.Tests.{aligned, writable, addressFits}
 use Rattle.guest.specs.Mode.{linkRegister}
 use Rattle.guest.specs.Injection.{modeOf}
-use Rattle.guest.specs.Bits.{isSet}
+use Rattle.bits.specs.Field.{bitOf}
 use Rattle.guest.specs.Entry.{vectorBase}
 use Rattle.guest.specs.Link.{correctionOf, linkOf}
 use Rattle.guest.specs.declared.mode.Mode.the-variants.{Abort, Undefined}
@@ -72,18 +72,18 @@ leaves s i p new-status new-link new-pc =
 -- an undefined instruction at PC, by the four registers that its case gives
 undefined : (s : Guest) (status pc vbar sctlr : ℕ) → Whole s → sound status ≡ true → aligned vbar ≡ true
     → s .status ≡ status → s .pc ≡ pc → s .vbar ≡ vbar → s .sctlr ≡ sctlr
-    → Leaves s UndefinedAt (entryStatus Undefined status sctlr) (linkOf pc (correctionOf UndefinedAt (isSet 5 status))) (vectorBase sctlr vbar + 0x04)
+    → Leaves s UndefinedAt (entryStatus Undefined status sctlr) (linkOf pc (correctionOf UndefinedAt (bitOf status 5))) (vectorBase sctlr vbar + 0x04)
 unfolding stateAfter
 undefined s status pc vbar sctlr whole is-sound is-aligned st p v sc =
     leaves s UndefinedAt
     (record { status = ap sound st ∙ is-sound; vbar = ap aligned v ∙ is-aligned; fault = refl; address = refl })
     (ap₂ (entryStatus Undefined) st sc)
     (link-held s UndefinedAt (subst (λ (n : ℕ). 22 < n) (sym whole) (lit< tt))
-    ∙ ap₂ (λ (x y : ℕ). linkOf x (correctionOf UndefinedAt (isSet 5 y))) p st)
+    ∙ ap₂ (λ (x y : ℕ). linkOf x (correctionOf UndefinedAt (bitOf y 5))) p st)
     (ap₂ (λ (x y : ℕ). vectorBase x y + 0x04) sc v)
 
 -- a data abort of a fault and an address that pass, with the vectors that SCTLR chooses
-aborted : (s : Guest) (a : Access) (status pc sctlr : ℕ) → Whole s → sound status ≡ true → isSet 13 sctlr ≡ true
+aborted : (s : Guest) (a : Access) (status pc sctlr : ℕ) → Whole s → sound status ≡ true → bitOf sctlr 13 ≡ true
     → aligned (s .vbar) ≡ true → writable (DataAbort a) (s .ttbcr) ≡ true → addressFits (DataAbort a) ≡ true
     → s .status ≡ status → s .pc ≡ pc → s .sctlr ≡ sctlr
     → Leaves s (DataAbort a) (entryStatus Abort status sctlr) (linkOf pc (pos 8)) 0xFFFF0010
@@ -92,7 +92,7 @@ aborted s a status pc sctlr whole is-sound high is-aligned fault address st p sc
     leaves s (DataAbort a) (record { status = ap sound st ∙ is-sound; vbar = is-aligned; fault = fault; address = address })
     (ap₂ (entryStatus Abort) st sc)
     (link-held s (DataAbort a) (subst (λ (n : ℕ). 20 < n) (sym whole) (lit< tt)) ∙ ap (λ (x : ℕ). linkOf x (pos 8)) p)
-    (ap (λ (b : Bool). cond b 0xFFFF_0000 (s .vbar) + 0x10) (ap (isSet 13) sc ∙ high))
+    (ap (λ (b : Bool). cond b 0xFFFF_0000 (s .vbar) + 0x10) (ap (λ (w : ℕ). bitOf w 13) sc ∙ high))
 
 -- 0x91830005: a word load of register 3 with IL 0
 load-of-3 : Record

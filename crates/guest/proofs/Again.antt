@@ -8,7 +8,7 @@ use Rattle.guest.specs.declared.mode.Mode.{Mode}
 use Rattle.guest.specs.declared.mode.Mode.the-variants.{Supervisor, Abort, Undefined}
 use Rattle.guest.specs.declared.answer.Answer.the-variants.{Accepted}
 use Rattle.guest.specs.declared.injection.Injection.{Injection}
-use Rattle.guest.specs.Bits.{field}
+use Rattle.bits.specs.Field.{fieldOf}
 use Rattle.guest.specs.Mode.{modeNumber}
 use Rattle.guest.specs.Injection.{modeOf}
 use Rattle.guest.specs.Status.{isMode, sound, entryStatus}
@@ -30,7 +30,7 @@ right false b e = absurd (true≢false (sym e))
 sound-again : (m : Mode) (old sctlr : ℕ) → sound old ≡ true → sound (entryStatus m old sctlr) ≡ true
 unfolding sound
 sound-again m old sctlr e =
-    ap₂ _&&_ (ap isMode (f .m4-0) ∙ entered-mode m) (ap (λ (n : ℕ). eqb n 0) (f .kept24-21) ∙ right (isMode (field 4 0 old)) (eqb (field 24 21 old) 0) e)
+    ap₂ _&&_ (ap isMode (f .m4-0) ∙ entered-mode m) (ap (λ (n : ℕ). eqb n 0) (f .kept24-21) ∙ right (isMode (fieldOf old 4 0)) (eqb (fieldOf old 24 21) 0) e)
   where
     f : Fields m old sctlr (entryStatus m old sctlr)
     f = entry-fields m old sctlr

@@ -4,7 +4,7 @@ use Prim.Native.Nat.{ℕ, _+_, _*_, _^_, _<_}
 use native.Mathlib.Omega.{arith}
 use Rattle.guest.specs.declared.mode.Mode.{Mode}
 use Rattle.guest.specs.declared.mode.Mode.the-variants.{Supervisor, Abort, Undefined}
-use Rattle.guest.specs.Bits.{field, bit}
+use Rattle.bits.specs.Field.{fieldOf}
 use Rattle.guest.specs.Mode.{modeNumber}
 use Rattle.guest.specs.Status.{entryA, entryStatus}
 
@@ -19,32 +19,32 @@ mode-bits Abort = omega arith
 mode-bits Undefined = omega arith
 
 pub record Fields (m : Mode) (old sctlr new : ℕ) : Type 0 where
-  pub m4-0 : field 4 0 new ≡ modeNumber m
-  pub t5 : bit 5 new ≡ bit 30 sctlr
-  pub f6 : bit 6 new ≡ bit 6 old
-  pub i7 : bit 7 new ≡ 1
-  pub a8 : bit 8 new ≡ entryA m old
-  pub e9 : bit 9 new ≡ bit 25 sctlr
-  pub it15-10 : field 15 10 new ≡ 0
-  pub ge19-16 : field 19 16 new ≡ field 19 16 old
-  pub il20 : bit 20 new ≡ 0
-  pub kept24-21 : field 24 21 new ≡ field 24 21 old
-  pub it26-25 : field 26 25 new ≡ 0
-  pub flags31-27 : field 31 27 new ≡ field 31 27 old
+  pub m4-0 : fieldOf new 4 0 ≡ modeNumber m
+  pub t5 : fieldOf new 5 5 ≡ fieldOf sctlr 30 30
+  pub f6 : fieldOf new 6 6 ≡ fieldOf old 6 6
+  pub i7 : fieldOf new 7 7 ≡ 1
+  pub a8 : fieldOf new 8 8 ≡ entryA m old
+  pub e9 : fieldOf new 9 9 ≡ fieldOf sctlr 25 25
+  pub it15-10 : fieldOf new 15 10 ≡ 0
+  pub ge19-16 : fieldOf new 19 16 ≡ fieldOf old 19 16
+  pub il20 : fieldOf new 20 20 ≡ 0
+  pub kept24-21 : fieldOf new 24 21 ≡ fieldOf old 24 21
+  pub it26-25 : fieldOf new 26 25 ≡ 0
+  pub flags31-27 : fieldOf new 31 27 ≡ fieldOf old 31 27
 
 -- a sum of the fields, each in its place and within its width: 31:27, 24:21, 19:16, 9, 8, 7, 6, 5 and 4:0
 module _ (n x g e a f t m : ℕ) (hn : n < 32) (hx : x < 16) (hg : g < 16) (he : e < 2) (ha : a < 2) (hf : f < 2) (ht : t < 2) (hm : m < 32) where
   abbrev word : ℕ
   word = n * 2 ^ 27 + x * 2 ^ 21 + g * 2 ^ 16 + e * 2 ^ 9 + a * 2 ^ 8 + 1 * 2 ^ 7 + f * 2 ^ 6 + t * 2 ^ 5 + m
 
-  digits : (field 4 0 word ≡ m) × (bit 5 word ≡ t) × (bit 6 word ≡ f) × (bit 7 word ≡ 1) × (bit 8 word ≡ a) × (bit 9 word ≡ e)
-      × (field 15 10 word ≡ 0) × (field 19 16 word ≡ g) × (bit 20 word ≡ 0) × (field 24 21 word ≡ x) × (field 26 25 word ≡ 0) × (field 31 27 word ≡ n)
+  digits : (fieldOf word 4 0 ≡ m) × (fieldOf word 5 5 ≡ t) × (fieldOf word 6 6 ≡ f) × (fieldOf word 7 7 ≡ 1) × (fieldOf word 8 8 ≡ a) × (fieldOf word 9 9 ≡ e)
+      × (fieldOf word 15 10 ≡ 0) × (fieldOf word 19 16 ≡ g) × (fieldOf word 20 20 ≡ 0) × (fieldOf word 24 21 ≡ x) × (fieldOf word 26 25 ≡ 0) × (fieldOf word 31 27 ≡ n)
   digits = (omega arith, omega arith, omega arith, omega arith, omega arith, omega arith, omega arith, omega arith, omega arith, omega arith, omega arith, omega arith)
 
 pub entry-fields : (m : Mode) (old sctlr : ℕ) → Fields m old sctlr (entryStatus m old sctlr)
 unfolding entryStatus
 entry-fields m old sctlr =
-    let d = digits (field 31 27 old) (field 24 21 old) (field 19 16 old) (bit 25 sctlr) (entryA m old) (bit 6 old) (bit 30 sctlr) (modeNumber m)
+    let d = digits (fieldOf old 31 27) (fieldOf old 24 21) (fieldOf old 19 16) (fieldOf sctlr 25 25) (entryA m old) (fieldOf old 6 6) (fieldOf sctlr 30 30) (modeNumber m)
     (omega arith) (omega arith) (omega arith) (omega arith) (a-bit m old) (omega arith) (omega arith) (mode-bits m) in
     record {
       m4-0 = d .0;

@@ -11,7 +11,7 @@ use Rattle.guest.specs.declared.fault.Encoding.{Encoding}
 use Rattle.guest.specs.declared.fault.Encoding.the-variants.{Code, Unwritable}
 use Rattle.guest.specs.declared.injection.Fetch.{Fetch}
 use Rattle.guest.specs.declared.injection.Access.{Access}
-use Rattle.guest.specs.Bits.{isSet}
+use Rattle.bits.specs.Field.{bitOf}
 use Rattle.guest.specs.Fault.{byLevel, codeOf, wordOf, onCode, faultStatus, dataOnly, ifsrWord, writeBit, dfsrWord}
 use Rattle.guest.specs.Tests.{isCode}
 
@@ -66,19 +66,19 @@ still : (f : ℕ → ℕ) (e : Encoding) → isCode (onCode f e) ≡ isCode e
 still f (Code c) = refl
 still f Unwritable = refl
 
-status-written : (f : Fault) (t : ℕ) → isCode (faultStatus f t) ≡ hasCode (isSet 31 t) f
+status-written : (f : Fault) (t : ℕ) → isCode (faultStatus f t) ≡ hasCode (bitOf t 31) f
 unfolding faultStatus
-status-written f t = still (λ c. wordOf c (isSet 31 t)) (codeOf f (isSet 31 t)) ∙ coded f (isSet 31 t)
+status-written f t = still (λ c. wordOf c (bitOf t 31)) (codeOf f (bitOf t 31)) ∙ coded f (bitOf t 31)
 
 -- a fault for data only is not written
 but : (b : Bool) (e : Encoding) → isCode (cond b Unwritable e) ≡ (not b && isCode e)
 but true e = refl
 but false e = refl
 
-pub fetch-writable : (f : Fetch) (t : ℕ) → isCode (ifsrWord f t) ≡ (not (dataOnly (f .fault)) && hasCode (isSet 31 t) (f .fault))
+pub fetch-writable : (f : Fetch) (t : ℕ) → isCode (ifsrWord f t) ≡ (not (dataOnly (f .fault)) && hasCode (bitOf t 31) (f .fault))
 fetch-writable f t =
     but (dataOnly (f .fault)) (faultStatus (f .fault) t) ∙ ap (λ (b : Bool). not (dataOnly (f .fault)) && b) (status-written (f .fault) t)
 
-pub access-writable : (a : Access) (t : ℕ) → isCode (dfsrWord a t) ≡ hasCode (isSet 31 t) (a .fault)
+pub access-writable : (a : Access) (t : ℕ) → isCode (dfsrWord a t) ≡ hasCode (bitOf t 31) (a .fault)
 unfolding dfsrWord
 access-writable a t = still (λ w. writeBit (a .write) + w) (faultStatus (a .fault) t) ∙ status-written (a .fault) t

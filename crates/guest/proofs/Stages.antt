@@ -17,7 +17,7 @@ use Rattle.guest.specs.declared.injection.Injection.the-variants.{Undefi
 use Rattle.guest.specs.declared.injector.Injected.{Injected}
 use Rattle.guest.specs.declared.report.Report.{Report}
 use Rattle.guest.specs.declared.report.Report.the-variants.{Nothing, Words, NoStatus, NoAddress}
-use Rattle.guest.specs.Bits.{isSet}
+use Rattle.bits.specs.Field.{bitOf}
 use Rattle.guest.specs.Status.{sound, entryStatus}
 use Rattle.guest.specs.Mode.{linkRegister, savedIn}
 use Rattle.guest.specs.Injection.{modeOf, vectorOf}
@@ -84,7 +84,7 @@ vector-below (DataAbort a) = omega arith
 -- the sum of the vector and an aligned base does not wrap
 pub vector-exact : (sctlr vbar v : ℕ) → aligned vbar ≡ true → vbar < 2 ^ 32 → v < 32 → (vectorBase sctlr vbar + v) % 2 ^ 32 ≡ vectorBase sctlr vbar + v
 unfolding aligned
-vector-exact sctlr vbar v e h k = go (isSet 13 sctlr)
+vector-exact sctlr vbar v e h k = go (bitOf sctlr 13)
   where
     go : (b : Bool) → (cond b 0xFFFF_0000 vbar + v) % 2 ^ 32 ≡ cond b 0xFFFF_0000 vbar + v
     go true = mod-eq-of-lt (omega arith)

@@ -4,13 +4,13 @@ use mathlib.Core.Bool.{cond}
 use lib.ListN.{set}
 use Rattle.guest.specs.declared.state.Guest.{Guest}
 use Rattle.guest.specs.declared.mode.Mode.{Mode}
-use Rattle.guest.specs.Bits.{isSet}
+use Rattle.bits.specs.Field.{bitOf}
 use Rattle.guest.specs.Mode.{linkRegister, savedIn}
 use Rattle.guest.specs.Status.{entryStatus}
 
 -- the base of the vector table: 0xFFFF0000 where SCTLR.V, bit 13, is 1, else VBAR
 abbrev pub vectorBase : ℕ → ℕ → ℕ
-vectorBase sctlr vbar = cond (isSet 13 sctlr) 0xFFFF_0000 vbar
+vectorBase sctlr vbar = cond (bitOf sctlr 13) 0xFFFF_0000 vbar
 
 -- the sum wraps for no vector of the table where VBAR is aligned (`vector-exact` of proofs/Stages.antt)
 unfoldable pub entered : Guest → Mode → ℕ → ℕ → Guest

@@ -9,7 +9,7 @@ use Rattle.guest.specs.declared.fault.Encoding.the-variants.{Code, Unwri
 use Rattle.guest.specs.declared.fault.Row.{Row}
 use Rattle.guest.specs.declared.injection.Fetch.{Fetch}
 use Rattle.guest.specs.declared.injection.Access.{Access}
-use Rattle.guest.specs.Bits.{field, bit, isSet}
+use Rattle.bits.specs.Field.{fieldOf, bitOf}
 
 -- the code of a level: those of levels 1 and 2, and what stands at level 3; no other level has one
 unfoldable pub byLevel : ℕ → ℕ → ℕ → Encoding → Encoding
@@ -30,8 +30,8 @@ codeOf f false = rowOf f .short
 
 -- long: bit 9 set, STATUS in bits 5:0; short: FS 3:0 in bits 3:0, FS bit 4 in bit 10
 abbrev pub wordOf : ℕ → Bool → ℕ
-wordOf status true = 2 ^ 9 + field 5 0 status
-wordOf fs false = bit 4 fs * 2 ^ 10 + field 3 0 fs
+wordOf status true = 2 ^ 9 + fieldOf status 5 0
+wordOf fs false = fieldOf fs 4 4 * 2 ^ 10 + fieldOf fs 3 0
 
 -- an encoding, with its word changed
 abbrev pub onCode : (ℕ → ℕ) → Encoding → Encoding
@@ -40,7 +40,7 @@ onCode f Unwritable = Unwritable
 
 -- TTBCR bit 31 chooses the long format
 unfoldable pub faultStatus : Fault → ℕ → Encoding
-faultStatus f ttbcr = onCode (λ c. wordOf c (isSet 31 ttbcr)) (codeOf f (isSet 31 ttbcr))
+faultStatus f ttbcr = onCode (λ c. wordOf c (bitOf ttbcr 31)) (codeOf f (bitOf ttbcr 31))
 
 abbrev pub dataOnly : Fault → Bool
 dataOnly External = false

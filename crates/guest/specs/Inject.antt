@@ -11,7 +11,7 @@ use Rattle.guest.specs.declared.injection.Access.{Access}
 use Rattle.guest.specs.declared.injection.Injection.{Injection}
 use Rattle.guest.specs.declared.injection.Injection.the-variants.{UndefinedAt, UndefinedAfter, SupervisorCall, PrefetchAbort, DataAbort}
 use Rattle.guest.specs.declared.injector.Injected.{Injected}
-use Rattle.guest.specs.Bits.{isSet}
+use Rattle.bits.specs.Field.{bitOf}
 use Rattle.guest.specs.Status.{entryStatus}
 use Rattle.guest.specs.Mode.{linkRegister, savedIn}
 use Rattle.guest.specs.Injection.{modeOf, vectorOf}
@@ -22,7 +22,7 @@ use Rattle.guest.specs.Tests.{answerOf}
 
 -- the link, from the old PC and the old T bit
 abbrev pub linkAfter : Guest → Injection → ℕ
-linkAfter s i = linkOf (s .pc) (correctionOf i (isSet 5 (s .status)))
+linkAfter s i = linkOf (s .pc) (correctionOf i (bitOf (s .status) 5))
 
 -- a register that only a prefetch abort writes, and one that only a data abort writes
 abbrev pub onFetch : Injection → (Fetch → ℕ) → ℕ → ℕ

@@ -1,5 +1,5 @@
 -- What the contracts of `guest` say, by the paper's section on the guest state and the five injections.
-pub mod Bits
+pub mod Kept
 pub mod Answer
 pub mod Mode
 pub mod Status

@@ -4,7 +4,8 @@ use mathlib.Core.Bool.{Bool, _&&_, _||_}
 use lib.Dec.{eqb}
 use Rattle.guest.specs.declared.mode.Mode.{Mode}
 use Rattle.guest.specs.declared.mode.Mode.the-variants.{Supervisor, Abort, Undefined}
-use Rattle.guest.specs.Bits.{field, kept, bit}
+use Rattle.bits.specs.Field.{fieldOf}
+use Rattle.guest.specs.Kept.{kept}
 use Rattle.guest.specs.Mode.{modeNumber}
 
 -- the modes accepted: User, FIQ, IRQ, Supervisor, Abort, Undefined, System
@@ -12,13 +13,13 @@ unfoldable pub isMode : ℕ → Bool
 isMode m = eqb m 0x10 || eqb m 0x11 || eqb m 0x12 || eqb m 0x13 || eqb m 0x17 || eqb m 0x1B || eqb m 0x1F
 
 unfoldable pub sound : ℕ → Bool
-sound w = isMode (field 4 0 w) && eqb (field 24 21 w) 0
+sound w = isMode (fieldOf w 4 0) && eqb (fieldOf w 24 21) 0
 
 -- the A bit: an abort sets it, any other exception keeps it
 abbrev pub entryA : Mode → ℕ → ℕ
-entryA Supervisor old = bit 8 old
+entryA Supervisor old = fieldOf old 8 8
 entryA Abort old = 1
-entryA Undefined old = bit 8 old
+entryA Undefined old = fieldOf old 8 8
 
 -- The status word that the handler finds, as the sum of its fields. IT, bits 26:25 and 15:10, and IL, bit 20, are 0.
 --     31:27  N, Z, C, V, Q, kept
@@ -32,12 +33,12 @@ entryA Undefined old = bit 8 old
 --     4:0    M: the mode
 unfoldable pub entryStatus : Mode → ℕ → ℕ → ℕ
 entryStatus m old sctlr =
-    kept 31 27 old
-    + kept 24 21 old
-    + kept 19 16 old
-    + bit 25 sctlr * 2 ^ 9
+    kept old 31 27
+    + kept old 24 21
+    + kept old 19 16
+    + fieldOf sctlr 25 25 * 2 ^ 9
     + entryA m old * 2 ^ 8
     + 1 * 2 ^ 7
-    + bit 6 old * 2 ^ 6
-    + bit 30 sctlr * 2 ^ 5
+    + fieldOf old 6 6 * 2 ^ 6
+    + fieldOf sctlr 30 30 * 2 ^ 5
     + modeNumber m

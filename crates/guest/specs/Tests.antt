@@ -9,13 +9,13 @@ use Rattle.guest.specs.declared.fault.Encoding.{Encoding}
 use Rattle.guest.specs.declared.fault.Encoding.the-variants.{Code, Unwritable}
 use Rattle.guest.specs.declared.injection.Injection.{Injection}
 use Rattle.guest.specs.declared.injection.Injection.the-variants.{UndefinedAt, UndefinedAfter, SupervisorCall, PrefetchAbort, DataAbort}
-use Rattle.guest.specs.Bits.{field}
+use Rattle.bits.specs.Field.{fieldOf}
 use Rattle.guest.specs.Status.{sound}
 use Rattle.guest.specs.Fault.{ifsrWord, dfsrWord}
 
 -- 10: VBAR bits 4:0 are zero
 unfoldable pub aligned : ℕ → Bool
-aligned vbar = eqb (field 4 0 vbar) 0
+aligned vbar = eqb (fieldOf vbar 4 0) 0
 
 -- 11: an abort's fault can be written in its register, in the format that TTBCR chooses
 abbrev pub isCode : Encoding → Bool

@@ -2,12 +2,12 @@
 ghost use mathlib.Core.Path.{_≡_};
 ghost use Rattle.guest.specs.Entry.{vectorBase, entered};
 ghost use Rattle.guest.specs.Tests.{aligned};
-use crate::bits::is_set;
 use crate::mode::Mode;
 use crate::mode::link_register;
 use crate::mode::saved_in;
 use crate::state::Guest;
 use crate::status::entry_status;
+use bits::bit;
 use std::num::wrapping_add_u32;
 
 // A vector table starts at a multiple of 32.
@@ -21,7 +21,11 @@ pub fn is_aligned(vbar: u32) -> bool
 fn vector_base(sctlr: u32, vbar: u32) -> u32
     ensures { λ r. ⌜ r ≡ vectorBase sctlr vbar ⌝ }
 {
-    if is_set(sctlr, 13) { 0xFFFF_0000 } else { vbar }
+    if bit(sctlr as u64, 13) {
+        0xFFFF_0000
+    } else {
+        vbar
+    }
 }
 
 // The state as the handler at `vector` finds it, with `link` in the mode's LR.

@@ -1,9 +1,9 @@
 // The fault status registers, DFSR and IFSR.
 ghost use mathlib.Core.Path.{_≡_};
 ghost use Rattle.guest.specs.Fault.{byLevel, rowOf, codeOf, wordOf, faultStatus, dataOnly, ifsrWord, dfsrWord};
-use crate::bits::is_set;
 use crate::injection::Access;
 use crate::injection::Fetch;
+use bits::bit;
 
 // A fault with the level of the lookup that gave it, where the fault has a level.
 pub enum Fault {
@@ -89,7 +89,7 @@ fn word_of(code: u32, long: bool) -> u32
 pub fn fault_status(fault: Fault, ttbcr: u32) -> Encoding
     ensures { λ r. ⌜ r ≡ faultStatus fault ttbcr ⌝ }
 {
-    let long = is_set(ttbcr, 31);
+    let long = bit(ttbcr as u64, 31);
     match code_of(fault, long) {
         Encoding::Code(code) => Encoding::Code(word_of(code, long)),
         Encoding::Unwritable => Encoding::Unwritable,

@@ -1,6 +1,5 @@
 // The state of a Non-secure AArch32 guest, and the five exceptions that a hypervisor injects into it.
 mod answer;
-mod bits;
 mod entry;
 mod fault;
 mod injection;

@@ -1,14 +1,14 @@
 // The status word (CPSR): which words are sound, and the word that an exception's handler finds.
 ghost use mathlib.Core.Path.{_≡_};
 ghost use Prim.Native.Nat.{_*_, _^_};
-ghost use Rattle.guest.specs.Bits.{isSet};
+ghost use Rattle.bits.specs.Field.{bitOf};
 ghost use Rattle.guest.specs.Status.{sound, entryA, entryStatus};
-use crate::bits::is_set;
 use crate::mode::Mode;
 use crate::mode::mode_number;
+use bits::bit;
 
 // Bit m is set for each mode m that a guest runs in.
-const MODES: u32 = 0x888F_0000;
+const MODES: u64 = 0x888F_0000;
 
 // N, Z, C, V and Q.
 const FLAGS: u32 = 0xF800_0000;
@@ -33,14 +33,14 @@ const TE: u32 = 0x4000_0000;
 pub fn is_sound(status: u32) -> bool
     ensures { λ r. ⌜ r ≡ sound status ⌝ }
 {
-    is_set(MODES, status & 0x1F) && status & FEATURES == 0
+    bit(MODES, status & 0x1F) && status & FEATURES == 0
 }
 
 // Whether the guest is in T32 state.
 pub fn is_t32(status: u32) -> bool
-    ensures { λ r. ⌜ r ≡ isSet 5 status ⌝ }
+    ensures { λ r. ⌜ r ≡ bitOf status 5 ⌝ }
 {
-    is_set(status, 5)
+    bit(status as u64, 5)
 }
 
 // A, which an abort sets.

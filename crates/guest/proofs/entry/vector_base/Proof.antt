@@ -5,16 +5,16 @@ use borrow.Author.Needs.{needs}
 use Rattle.guest.proofs.entry.vector_base.Statement.{statement}
 use Rattle.guest.proofs.entry.vector_base.Tie as tie
 
-is-set-requires : tie.Need-is-set-requires
-is-set-requires c κs = search needs
+bit-requires : tie.Need-bit-requires
+bit-requires c κs = search needs
 
 returns : tie.Need-returns
 returns c =
-    ap (λ (b : Bool). cond b 0xFFFF_0000 (c .before .before .args .vbar)) (sym (c .if1 .taken) ∙ c .before .is-set .ensures)
+    ap (λ (b : Bool). cond b 0xFFFF_0000 (c .before .before .args .vbar)) (sym (c .if1 .taken) ∙ c .before .bit .ensures)
 
 returns-2 : tie.Need-returns-2
 returns-2 c =
-    ap (λ (b : Bool). cond b 0xFFFF_0000 (c .before .before .args .vbar)) (sym (c .if1 .left) ∙ c .before .is-set .ensures)
+    ap (λ (b : Bool). cond b 0xFFFF_0000 (c .before .before .args .vbar)) (sym (c .if1 .left) ∙ c .before .bit .ensures)
 
 pub vector-base-spec : {M : Type 1} → statement M
-vector-base-spec = tie.close (tie.spec is-set-requires returns returns-2)
+vector-base-spec = tie.close (tie.spec bit-requires returns returns-2)

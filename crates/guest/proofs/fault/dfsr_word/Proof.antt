@@ -10,7 +10,7 @@ use Rattle.guest.specs.declared.fault.Fault.{Fault}
 use Rattle.guest.specs.declared.fault.Encoding.{Encoding}
 use Rattle.guest.specs.declared.fault.Encoding.the-variants.{Code, Unwritable}
 use Rattle.guest.specs.declared.injection.Access.{Access}
-use Rattle.guest.specs.Bits.{isSet}
+use Rattle.bits.specs.Field.{bitOf}
 use Rattle.guest.specs.Fault.{codeOf, wordOf, onCode, faultStatus, writeBit, dfsrWord}
 use Rattle.guest.proofs.Told.{told}
 use Rattle.guest.proofs.fault.dfsr_word.Statement.{statement}
@@ -24,7 +24,7 @@ word-below false Unwritable p = let z : _≡_ {A = ℕ} 0 1 = cc in omega arith
 
 below-11 : (f : Fault) (t : ℕ) {w : ℕ} → faultStatus f t ≡ Code w → w < 2 ^ 11
 unfolding faultStatus
-below-11 f t = word-below (isSet 31 t) (codeOf f (isSet 31 t))
+below-11 f t = word-below (bitOf t 31) (codeOf f (bitOf t 31))
 
 -- the word x that was found, marked by whether the access was a write
 marked : (a : Access) (t : ℕ) {b : Bool} {e x : Encoding} → a .write ≡ b → e ≡ faultStatus (a .fault) t → e ≡ x → onCode (λ w. writeBit b + w) x ≡ dfsrWord a t

@@ -10,7 +10,7 @@ use Rattle.guest.specs.declared.answer.Answer.the-variants.{Accepted}
 use Rattle.guest.specs.declared.injector.Injected.{Injected}
 use Rattle.guest.specs.declared.injection.Injection.{Injection}
 use Rattle.guest.specs.declared.link.Correction.{Correction}
-use Rattle.guest.specs.Bits.{isSet}
+use Rattle.bits.specs.Field.{bitOf}
 use Rattle.guest.specs.Injection.{modeOf, vectorOf}
 use Rattle.guest.specs.Link.{signed, bySign, correctionOf, linkOf}
 use Rattle.guest.specs.Entry.{entered}
@@ -26,7 +26,7 @@ abbrev taken : Guest → Injected
 taken s = record { answer = Accepted; state = s }
 
 all : (s : Guest) (i : Injection) {b : Bool} {k : Correction} {l v : ℕ} {m : Mode} {r : Guest}
-    → b ≡ isSet 5 (s .status) → k ≡ bySign (correctionOf i b) → l ≡ linkOf (s .pc) (signed k) → m ≡ modeOf i → v ≡ vectorOf i → r ≡ entered s m v l → taken r ≡ accepted s i
+    → b ≡ bitOf (s .status) 5 → k ≡ bySign (correctionOf i b) → l ≡ linkOf (s .pc) (signed k) → m ≡ modeOf i → v ≡ vectorOf i → r ≡ entered s m v l → taken r ≡ accepted s i
 unfolding accepted
 all s i {l = l} {v} t k e m x r =
     ap taken

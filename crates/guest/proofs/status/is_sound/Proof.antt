@@ -4,34 +4,34 @@ use mathlib.Core.Bool.{Bool, _&&_}
 use Prim.Native.Nat.{ℕ, _/_, _%_, _^_, _<_}
 use lib.Bits.{bitAnd, mask-lt}
 use lib.Dec.{eqb}
-use Rattle.guest.specs.Bits.{isSet}
+use Rattle.bits.specs.Field.{bitOf}
 use Rattle.guest.specs.Status.{isMode, sound}
 use Rattle.guest.proofs.Every.{below}
 use Rattle.guest.proofs.Masks.{field-zero, low-bits}
 use Rattle.guest.proofs.status.is_sound.Statement.{statement}
 use Rattle.guest.proofs.status.is_sound.Tie as tie
 
-modes : (m : ℕ) → m < 32 → isSet m 0x888F_0000 ≡ isMode m
+modes : (m : ℕ) → m < 32 → bitOf 0x888F_0000 m ≡ isMode m
 unfolding isMode
-modes = below (λ m. isSet m 0x888F_0000) isMode 32 tt
+modes = below (λ m. bitOf 0x888F_0000 m) isMode 32 tt
 
 -- the code's two tests are the definition's
-tests : (w : ℕ) {b : Bool} → b ≡ isSet (bitAnd w 31) 0x888F_0000 → (b && eqb (bitAnd w 0x01E0_0000) 0) ≡ sound w
+tests : (w : ℕ) {b : Bool} → b ≡ bitOf 0x888F_0000 (bitAnd w 31) → (b && eqb (bitAnd w 0x01E0_0000) 0) ≡ sound w
 unfolding sound
 tests w e =
     ap (λ (b : Bool). b && eqb (bitAnd w 0x01E0_0000) 0)
     (e ∙ modes (bitAnd w 31) (mask-lt w 5) ∙ ap isMode (low-bits w 5))
     ∙ ap (λ (b : Bool). isMode (w / 2 ^ 0 % 2 ^ 5) && b) (field-zero w 4 21)
 
-is-set-requires : tie.Need-is-set-requires
-is-set-requires c κs = mask-lt (c .args .status) 5
+bit-requires : tie.Need-bit-requires
+bit-requires c κs = tt
 
 returns : tie.Need-returns
-returns c = tests (c .before .before .args .status) (sym (c .if1 .taken) ∙ c .before .is-set .ensures)
+returns c = tests (c .before .before .args .status) (sym (c .if1 .taken) ∙ c .before .bit .ensures)
 
 returns-2 : tie.Need-returns-2
 returns-2 c =
-    c .if1 .left ∙ tests (c .before .before .args .status) (sym (c .if1 .left) ∙ c .before .is-set .ensures)
+    c .if1 .left ∙ tests (c .before .before .args .status) (sym (c .if1 .left) ∙ c .before .bit .ensures)
 
 pub is-sound-spec : {M : Type 1} → statement M
-is-sound-spec = tie.close (tie.spec is-set-requires returns returns-2)
+is-sound-spec = tie.close (tie.spec bit-requires returns returns-2)
