@@ -1,0 +1,30 @@
+-- The answers of the reader and the writer as single numbers.
+use Prim.Native.Nat.{ℕ, _+_, _-_, _*_, _^_}
+use Rattle.edition.specs.Judge.{numberOf, maskIn, countIn}
+use Rattle.edition.specs.declared.Refusal.{Refusal}
+use Rattle.syndrome.specs.Answer.{readOf, writeOf}
+use Rattle.syndrome.specs.declared.answer.Read.{Read}
+use Rattle.syndrome.specs.declared.answer.Written.{Written}
+
+-- a refusal's number, from bit 8 its mask, from bit 24 its number of ones
+abbrev pub packedRefusal : Refusal → ℕ
+packedRefusal f = numberOf f + maskIn f * 2 ^ 8 + countIn f * 2 ^ 24
+
+abbrev pub packedAnswer : Read → ℕ
+packedAnswer (Read.Taken r) = 0
+packedAnswer (Read.Refused f) = packedRefusal f
+
+abbrev pub packedRead : ℕ → ℕ → ℕ
+packedRead e w = packedAnswer (readOf e w)
+
+-- the word that a record is written to, or all ones
+abbrev pub wordOr : Written → ℕ
+wordOr (Written.Word esr) = esr .0
+wordOr (Written.Refused f) = 2 ^ 64 - 1
+
+abbrev pub rewrittenFrom : ℕ → Read → ℕ
+rewrittenFrom writer (Read.Taken r) = wordOr (writeOf writer r)
+rewrittenFrom writer (Read.Refused f) = 2 ^ 64 - 1
+
+abbrev pub rewritten : ℕ → ℕ → ℕ → ℕ
+rewritten reader writer w = rewrittenFrom writer (readOf reader w)
