@@ -1,7 +1,7 @@
 -- Powers of two: shifts, and numbers that are cut to a width.
 -- Assumes nothing.
 use mathlib.Core.Path.{_≡_, _∙_, sym, ap}
-use Prim.Native.Nat.{ℕ, _+_, _-_, _*_, _/_, _%_, _^_, _≤_, _<_}
+use Prim.Native.Nat.{ℕ, _-_, _*_, _/_, _%_, _^_, _≤_, _<_}
 use native.Mathlib.Nat.{one-mul, mul-assoc, lt-of-lt-of-le, sub-add-cancel, mod-eq-of-lt, div-eq-of-lt, mod-lt, zero-mod, mul-mod-left}
 use native.Mathlib.Omega.{arith}
 use lib.Dec.{lit<}

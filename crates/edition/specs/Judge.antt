@@ -1,6 +1,6 @@
 -- The refusals of a word or a record by their numbers, and the judgement of an edition on a mask.
 use Prim.Native.Nat.{ℕ}
-use mathlib.Core.Bool.{Bool, cond}
+use mathlib.Core.Bool.{cond}
 use lib.Count.{ones}
 use lib.Dec.{eqb}
 use Rattle.bits.specs.Field.{bitOf}

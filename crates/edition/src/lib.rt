@@ -1,6 +1,5 @@
 // Editions of the Arm manual as sets of chip features, masks of editions, and the refusals that go by them.
 ghost use mathlib.Core.Path.{_≡_};
-ghost use lib.Count.{ones};
 ghost use Rattle.edition.specs.Feature.{isEdition};
 ghost use Rattle.edition.specs.Judge.{numberOf, maskIn, countIn, judgeOf};
 

@@ -1,16 +1,15 @@
 -- Demand 2 for words: in each edition a syndrome is taken exactly when some record that the edition has writes to it, and writing that
 -- record gives the same word.
 -- Assumes nothing.
-use mathlib.Core.Path.{_≡_, refl, _∙_, sym, ap}
+use mathlib.Core.Path.{_≡_, _∙_, sym, ap}
 use mathlib.Core.Bool.{true, false, true≢false}
 use mathlib.Core.Logic.{_↔_}
 use Prim.Native.Nat.{ℕ}
 use native.Mathlib.Omega.{arith}
 use borrow.Author.Tests.{lt-ltb}
 use Rattle.edition.specs.Feature.{editions}
-use Rattle.edition.specs.Mask.{maskOf}
 use Rattle.syndrome.specs.Has.{has}
-use Rattle.syndrome.specs.Answer.{recordWord, makes, hasWord, readOf, writeOf}
+use Rattle.syndrome.specs.Answer.{recordWord, hasWord, readOf, writeOf}
 use Rattle.syndrome.specs.declared.record.Record.{Record}
 use Rattle.syndrome.specs.declared.answer.Read.{Read}
 use Rattle.syndrome.specs.declared.answer.Written.{Written}

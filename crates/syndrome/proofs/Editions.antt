@@ -2,12 +2,11 @@
 -- Assumes nothing.
 use mathlib.Core.Path.{_≡_, refl, _∙_, sym, ap}
 use mathlib.Core.Bool.{Bool, true, false, cond, not, _&&_, _||_, and-false}
-use Prim.Native.Nat.{ℕ, _≤_, _<_}
+use Prim.Native.Nat.{ℕ, _≤_}
 use native.Mathlib.Omega.{arith}
 use borrow.Author.Tests.{lt-ltb, lt-leb, ne-eqb}
-use lib.Dec.{eqb, leb}
-use Rattle.edition.specs.Feature.{editions, isEdition, ras, lpa2, hafdbs}
-use Rattle.edition.specs.Mask.{maskBelow, maskOf}
+use Rattle.edition.specs.Feature.{editions, isEdition, ras}
+use Rattle.edition.specs.Mask.{maskOf}
 use Rattle.edition.proofs.Masks.{mask-same, mask-none, mask-when}
 use Rattle.syndrome.specs.Code.{dataCode, instructionCode, dataOnly}
 

@@ -5,7 +5,7 @@ use mathlib.Core.Bool.{Bool, true, false, cond, _&&_, and-false, true≢false}
 use Prim.Native.Nat.{ℕ, _<_}
 use borrow.Author.Tests.{ltb-true}
 use lib.Dec.{T, eqb, lit≤}
-use Rattle.bits.specs.Layout.{wordOf, fitting, ordered, joinedFrom}
+use Rattle.bits.specs.Layout.{fitting, ordered, joinedFrom}
 use Rattle.bits.proofs.Fields.{joined-word}
 use Rattle.edition.specs.Feature.{editions, isEdition}
 use Rattle.edition.specs.Mask.{maskOf}

@@ -1,7 +1,7 @@
 -- Refusal 6, for reading and for writing: exactly when the edition is one of the eight, it doesn't have the word or record, and another
 -- does; and it names exactly the editions that have it, and their number.
 -- Assumes nothing.
-use mathlib.Core.Path.{_≡_, refl, _∙_, sym, ap}
+use mathlib.Core.Path.{_≡_, _∙_, sym, ap}
 use mathlib.Core.Bool.{Bool, true, false, true≢false}
 use mathlib.Core.Logic.{_↔_}
 use Prim.Native.Nat.{ℕ, _≤_, _<_}

@@ -1,18 +1,18 @@
 -- The record at the bits of a record's word is that record. One law over layouts, `all-back`, gives every field; each kind reads its own off.
 -- Assumes nothing.
 use mathlib.Core.Path.{_≡_, refl, _∙_, sym, ap, subst}
-use mathlib.Core.Bool.{Bool, true, false, _||_, true≢false}
+use mathlib.Core.Bool.{Bool, true, false, _||_}
 use mathlib.Core.Logic.{_⊎_, inl, inr, ⊎-elim}
 use Prim.Native.Nat.{ℕ}
 use borrow.Author.Tests.{eqb-true}
 use lib.Dec.{T, eqb}
 use Rattle.bits.specs.Field.{fieldOf, bitOf, digit}
-use Rattle.bits.specs.Layout.{wordOf, fitting}
+use Rattle.bits.specs.Layout.{fitting}
 use Rattle.bits.proofs.Fields.{AllBack, all-back}
 use Rattle.edition.proofs.Masks.{digit-back}
-use Rattle.syndrome.specs.Class.{plainClass, mcrClass, mcrrClass, callClass, ownClass}
+use Rattle.syndrome.specs.Class.{ownClass}
 use Rattle.syndrome.specs.Fields.{fieldsOf}
-use Rattle.syndrome.specs.Split.{plainAt, wfxAt, mcrAt, mcrrAt, ldcAt, simdAt, callAt, smcAt, instructionAbortAt, dataAbortAt, foundAt, foundIn}
+use Rattle.syndrome.specs.Split.{plainAt, mcrAt, mcrrAt, callAt, foundAt, foundIn}
 use Rattle.syndrome.specs.Answer.{recordWord}
 use Rattle.syndrome.specs.declared.record.Record.{Record}
 use Rattle.syndrome.specs.declared.record.Found.{Found}

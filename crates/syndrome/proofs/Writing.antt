@@ -7,7 +7,6 @@ use Prim.Native.Nat.{ℕ, _<_}
 use borrow.Author.Tests.{ltb-true}
 use lib.Count.{ones}
 use Rattle.edition.specs.Feature.{editions, isEdition}
-use Rattle.edition.specs.Judge.{judgeOf}
 use Rattle.edition.specs.declared.Refusal.the-variants.{UnknownEdition, ShortInstruction, NoEdition, OtherEditions}
 use Rattle.edition.proofs.Judgement.{judge-cases}
 use Rattle.syndrome.specs.Class.{ownClass}

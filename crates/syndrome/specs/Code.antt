@@ -1,7 +1,7 @@
 -- The rules that go by the edition: fault codes, SET, and the codes that a valid instruction syndrome goes with.
 use Prim.Native.Nat.{ℕ}
-use mathlib.Core.Bool.{Bool, true, false, not, _&&_, _||_}
-use lib.Dec.{leb, eqb}
+use mathlib.Core.Bool.{Bool, true, not, _&&_, _||_}
+use lib.Dec.{eqb}
 use Rattle.edition.specs.Feature.{ras, lpa2, hafdbs}
 use Rattle.syndrome.specs.Rule.{implies, between, translationCode}
 use Rattle.syndrome.specs.declared.record.Record.{Record}

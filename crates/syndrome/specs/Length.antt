@@ -1,5 +1,5 @@
 -- The IL rule: IL must be 1 for classes 0x00, 0x0E, 0x20, 0x22, and for 0x24 when ISV is 0. Elsewhere it may be either.
-use mathlib.Core.Bool.{Bool, true, not, _||_}
+use mathlib.Core.Bool.{Bool, true, _||_}
 use Rattle.syndrome.specs.declared.record.Record.{Record}
 
 abbrev pub ilRule : Record → Bool

@@ -1,7 +1,6 @@
 -- The rules that ask nothing of the edition: of the layout lines, and of aborts.
 use Prim.Native.Nat.{ℕ}
 use mathlib.Core.Bool.{Bool, true, not, _&&_, _||_}
-use mathlib.Core.List.{List, [], _∷_}
 use lib.Dec.{leb, ltb, eqb}
 use Rattle.syndrome.specs.declared.record.DataAbort.{DataAbort}
 use Rattle.syndrome.specs.declared.record.Record.{Record}

@@ -3,7 +3,6 @@
 // A word has one record, whatever the edition: what stands at the bits of its class. A record has one set of editions, its mask. An
 // edition only asks whether its bit stands in the mask.
 ghost use mathlib.Core.Path.{_≡_};
-ghost use Prim.Native.Nat.{ℕ};
 ghost use Rattle.edition.specs.Mask.{maskOf};
 ghost use Rattle.syndrome.specs.Answer.{makes, readRecord, readOf, writeOf};
 ghost use Rattle.syndrome.specs.Carry.{carriedOf};

@@ -4,7 +4,6 @@ use mathlib.Core.Path.{_≡_, refl, _∙_, sym, ap}
 use mathlib.Core.Bool.{Bool, true, false, cond, not, _&&_}
 use mathlib.Core.Logic.{_↔_}
 use Prim.Native.Nat.{ℕ, _+_}
-use native.Mathlib.Omega.{arith}
 use borrow.Author.Tests.{not-false}
 use lib.Count.{ones}
 use Rattle.bits.specs.Field.{fieldOf}
@@ -19,7 +18,7 @@ use Rattle.syndrome.proofs.Demand2.{absurd-answer, taken-had}
 use Rattle.syndrome.proofs.Refusal6.{OthersHave, read-six-exactly}
 use Rattle.trap.specs.Known.{intermediateKnown, farCounts, hpfarCounts}
 use Rattle.trap.specs.Page.{hpfarRule, farRule}
-use Rattle.trap.specs.Trap.{virtualOf, pageAddress, intermediateOf, abortOf, trapOf}
+use Rattle.trap.specs.Trap.{virtualOf, intermediateOf, abortOf, trapOf}
 use Rattle.trap.specs.Answer.{answerRecord, answerRead, answerOf}
 use Rattle.trap.specs.declared.IntermediateAddress.{IntermediateAddress}
 use Rattle.trap.specs.declared.Trap.{Trap}

@@ -2,14 +2,14 @@
 -- Assumes nothing.
 use mathlib.Core.Path.{_≡_, refl, _∙_, sym, ap, subst}
 use mathlib.Core.Bool.{Bool, true, false, cond}
-use Prim.Native.Nat.{ℕ, _*_, _^_, _≤_, _<_}
+use Prim.Native.Nat.{ℕ, _*_, _^_, _<_}
 use native.Mathlib.Nat.{mul-assoc}
 use borrow.Author.Tests.{eqb-true}
 use lib.Dec.{lit≤}
-use Rattle.bits.specs.Field.{widthOf, fieldOf}
+use Rattle.bits.specs.Field.{fieldOf}
 use Rattle.bits.proofs.Powers.{field-below}
 use Rattle.edition.specs.Feature.{lpa2}
-use Rattle.trap.specs.Page.{pageTop, pageNumber, hpfarRule}
+use Rattle.trap.specs.Page.{pageNumber, hpfarRule}
 use Rattle.trap.specs.Trap.{pageAddress}
 
 -- a page number has at most 40 bits

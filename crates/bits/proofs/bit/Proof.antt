@@ -1,3 +1,5 @@
+-- `bits::bit` meets its contract: a field of one bit, against 1.
+-- Assumes nothing.
 use borrow.Author.Needs.{needs}
 use mathlib.Core.Path.{ap}
 use Prim.Native.Nat.{ℕ}

@@ -1,3 +1,5 @@
+-- `bits::cut` meets its contract: below 64 bits the mask is the remainder by a power of two, and from 64 on nothing is cut.
+-- Assumes nothing.
 use borrow.Author.Needs.{needs}
 use mathlib.Core.Path.{_∙_, sym, ap, subst}
 use Prim.Native.Nat.{ℕ, _-_, _≤_}

@@ -1,3 +1,5 @@
+-- `bits::field` meets its contract: the shifted word is cut to the width; from bit 64 on there is nothing.
+-- Assumes nothing.
 use borrow.Author.Needs.{needs}
 use mathlib.Core.Path.{_∙_, sym, ap}
 use Prim.Native.Nat.{ℕ, _/_, _%_, _^_}

@@ -1,3 +1,5 @@
+-- `bits::field32` meets its contract: a field of at most 32 bits fits a u32.
+-- Assumes nothing.
 use borrow.Author.Needs.{needs}
 use mathlib.Core.Path.{_∙_, sym, ap, subst}
 use Prim.Native.Nat.{ℕ, _+_, _^_, _<_, min}

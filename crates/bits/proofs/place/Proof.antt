@@ -1,3 +1,5 @@
+-- `bits::place` meets its contract: the value is cut to the width and shifted; from bit 64 on nothing is left.
+-- Assumes nothing.
 use borrow.Author.Needs.{needs}
 use mathlib.Core.Path.{_∙_, sym, ap}
 use Prim.Native.Nat.{ℕ, _*_, _%_, _^_}

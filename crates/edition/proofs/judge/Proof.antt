@@ -1,3 +1,5 @@
+-- `edition::judge` meets its contract: the tests that led to each answer are those of `judgeOf`.
+-- Assumes nothing.
 use borrow.Author.Needs.{needs}
 use mathlib.Core.Path.{_∙_, sym}
 use borrow.Author.Tests.{eq-eqb, ne-eqb}

@@ -1,3 +1,5 @@
+-- `knucklepin::knucklepin_read` meets its contract: each arm packs the reader's answer.
+-- Assumes nothing.
 use borrow.Author.Needs.{needs}
 use mathlib.Core.Path.{refl, _∙_, sym}
 use Rattle.syndrome.proofs.Arm.{at-arm}

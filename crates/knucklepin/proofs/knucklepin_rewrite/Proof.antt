@@ -1,3 +1,5 @@
+-- `knucklepin::knucklepin_rewrite` meets its contract: each arm hands on the writer's word, or all ones.
+-- Assumes nothing.
 use borrow.Author.Needs.{needs}
 use mathlib.Core.Path.{refl, _∙_, sym}
 use Rattle.syndrome.proofs.Arm.{at-arm}

@@ -1,3 +1,5 @@
+-- `syndrome::carry` meets its contract: the word that was written is read back, by demand 3.
+-- Assumes nothing.
 use borrow.Author.Needs.{needs}
 use mathlib.Core.Path.{_∙_, sym, ap}
 use Rattle.syndrome.specs.Carry.{carriedFrom, carriedOf}

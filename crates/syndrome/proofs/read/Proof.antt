@@ -1,3 +1,5 @@
+-- `syndrome::read` meets its contract: the tests that led to each answer are those of `readOf`, in its order.
+-- Assumes nothing.
 use borrow.Author.Needs.{needs}
 use mathlib.Core.Path.{_∙_, sym, ap}
 use borrow.Author.Tests.{eq-eqb, ne-eqb, not-true, not-false}

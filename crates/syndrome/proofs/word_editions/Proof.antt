@@ -1,3 +1,5 @@
+-- `syndrome::word_editions` meets its contract: where the word comes back from the record, the record's editions; `makes-mask` says that they are the word's.
+-- Assumes nothing.
 use borrow.Author.Needs.{needs}
 use mathlib.Core.Path.{_∙_, sym, ap}
 use mathlib.Core.Bool.{Bool, cond}

@@ -1,3 +1,5 @@
+-- `syndrome::write` meets its contract: the tests that led to each answer are those of `writeOf`; a record that is taken is put together into its word.
+-- Assumes nothing.
 use borrow.Author.Needs.{needs}
 use mathlib.Core.Path.{_≡_, _∙_, sym, ap}
 use mathlib.Core.Bool.{true}

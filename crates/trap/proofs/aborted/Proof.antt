@@ -1,3 +1,5 @@
+-- `trap::aborted` meets its contract: both addresses are what their functions ensure.
+-- Assumes nothing.
 use borrow.Author.Needs.{needs}
 use Rattle.trap.proofs.aborted.Statement.{statement}
 use Rattle.trap.proofs.aborted.Tie as tie

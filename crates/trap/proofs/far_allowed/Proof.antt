@@ -1,3 +1,5 @@
+-- `trap::far_allowed` meets its contract: the test of 63:32.
+-- Assumes nothing.
 use borrow.Author.Needs.{needs}
 use Rattle.trap.proofs.far_allowed.Statement.{statement}
 use Rattle.trap.proofs.far_allowed.Tie as tie

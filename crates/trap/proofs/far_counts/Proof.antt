@@ -1,3 +1,5 @@
+-- `trap::far_counts` meets its contract: each arm's test is the rule of its kind.
+-- Assumes nothing.
 use borrow.Author.Needs.{needs}
 use mathlib.Core.Path.{refl}
 use Rattle.syndrome.proofs.Arm.{at-arm}

@@ -1,3 +1,5 @@
+-- `trap::hpfar_allowed` meets its contract: the test that the page field makes the whole word.
+-- Assumes nothing.
 use borrow.Author.Needs.{needs}
 use Rattle.trap.proofs.hpfar_allowed.Statement.{statement}
 use Rattle.trap.proofs.hpfar_allowed.Tie as tie

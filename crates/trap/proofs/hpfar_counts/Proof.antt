@@ -1,3 +1,5 @@
+-- `trap::hpfar_counts` meets its contract: each arm's test is the rule of its kind.
+-- Assumes nothing.
 use borrow.Author.Needs.{needs}
 use Rattle.syndrome.proofs.Arm.{at-arm}
 use Rattle.trap.specs.Known.{hpfarCounts}

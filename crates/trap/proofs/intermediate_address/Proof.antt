@@ -1,3 +1,5 @@
+-- `trap::intermediate_address` meets its contract: the tests that led to each answer are those of `intermediateOf`.
+-- Assumes nothing.
 use borrow.Author.Needs.{needs}
 use mathlib.Core.Path.{_≡_, _∙_, sym, ap, ap₂}
 use mathlib.Core.Bool.{Bool, true, cond}

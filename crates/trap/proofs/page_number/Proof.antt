@@ -1,3 +1,5 @@
+-- `trap::page_number` meets its contract: the field up to `pageTop`, which has at most 40 bits.
+-- Assumes nothing.
 use borrow.Author.Needs.{needs}
 use mathlib.Core.Path.{_∙_, sym, ap, subst}
 use Prim.Native.Nat.{ℕ, _^_, _<_}

@@ -1,3 +1,5 @@
+-- `trap::page_top` meets its contract: LPA2 decides.
+-- Assumes nothing.
 use borrow.Author.Needs.{needs}
 use mathlib.Core.Path.{_∙_, sym}
 use Rattle.trap.proofs.page_top.Statement.{statement}

@@ -1,3 +1,5 @@
+-- `trap::read` meets its contract: the syndrome reader's answer decides.
+-- Assumes nothing.
 use borrow.Author.Needs.{needs}
 use mathlib.Core.Path.{_∙_, sym, ap}
 use Rattle.syndrome.specs.declared.answer.Read.{Read}

@@ -1,3 +1,5 @@
+-- `trap::read_both` meets its contract: where both editions show a trap, `same-trap` says that it is one.
+-- Assumes nothing.
 use borrow.Author.Needs.{needs}
 use mathlib.Core.Path.{_≡_, _∙_, sym, ap, ap₂}
 use Prim.Native.Nat.{ℕ}

@@ -1,3 +1,5 @@
+-- `trap::read_record` meets its contract: tests 7 and 8 are those of `answerRecord`, in its order.
+-- Assumes nothing.
 use borrow.Author.Needs.{needs}
 use mathlib.Core.Path.{_≡_, _∙_, sym, ap, ap₂}
 use mathlib.Core.Bool.{Bool, not, _&&_}

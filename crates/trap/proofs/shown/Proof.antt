@@ -1,3 +1,5 @@
+-- `trap::shown` meets its contract: each arm's trap is that of its kind.
+-- Assumes nothing.
 use borrow.Author.Needs.{needs}
 use mathlib.Core.Path.{ap}
 use Prim.Native.Nat.{ℕ}

@@ -1,3 +1,5 @@
+-- `trap::unaborted` meets its contract: class 0x22 alone has an address.
+-- Assumes nothing.
 use borrow.Author.Tests.{eq-eqb, ne-eqb}
 use Rattle.trap.proofs.unaborted.Statement.{statement}
 use Rattle.trap.proofs.unaborted.Tie as tie

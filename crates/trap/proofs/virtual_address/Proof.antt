@@ -1,3 +1,5 @@
+-- `trap::virtual_address` meets its contract: the test that led to each answer is that of `virtualOf`.
+-- Assumes nothing.
 use borrow.Author.Needs.{needs}
 use mathlib.Core.Path.{_∙_, sym}
 use Rattle.trap.proofs.virtual_address.Statement.{statement}

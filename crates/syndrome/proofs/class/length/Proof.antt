@@ -1,3 +1,5 @@
+-- `syndrome::class::length` meets its contract: each arm's test is the rule of its kind.
+-- Assumes nothing.
 use borrow.Author.Needs.{needs}
 use mathlib.Core.Path.{refl}
 use Rattle.syndrome.specs.Length.{ilRule}

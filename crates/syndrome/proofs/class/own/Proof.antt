@@ -1,3 +1,5 @@
+-- `syndrome::class::own` meets its contract: each arm's test is the rule of its kind.
+-- Assumes nothing.
 use borrow.Author.Needs.{needs}
 use Rattle.syndrome.specs.Class.{ownClass}
 use Rattle.syndrome.proofs.Arm.{at-arm}

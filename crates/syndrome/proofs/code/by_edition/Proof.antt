@@ -1,3 +1,5 @@
+-- `syndrome::code::by_edition` meets its contract: each arm's masks are those of its kind's rules.
+-- Assumes nothing.
 use borrow.Author.Needs.{needs}
 use mathlib.Core.Path.{refl, _∙_, ap₂}
 use mathlib.Core.Bool.{_&&_}

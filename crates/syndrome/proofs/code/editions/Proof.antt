@@ -1,7 +1,8 @@
+-- `syndrome::code::editions` meets its contract: the masks of the rules of the edition are kept where the other rules hold.
+-- Assumes nothing.
 use borrow.Author.Needs.{needs}
 use mathlib.Core.Path.{_≡_, _∙_, sym, ap, ap₂}
 use mathlib.Core.Bool.{Bool, cond, _&&_}
-use Prim.Native.Nat.{ℕ}
 use Rattle.bits.specs.Layout.{fitting}
 use Rattle.edition.specs.Mask.{maskOf}
 use Rattle.syndrome.specs.Class.{ownClass}

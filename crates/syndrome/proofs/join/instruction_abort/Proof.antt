@@ -1,3 +1,5 @@
+-- `syndrome::join::instruction_abort` meets its contract: `|` of the fields, each as its call ensures.
+-- Assumes nothing.
 use borrow.Author.Needs.{needs}
 use Rattle.syndrome.proofs.Or.{_also_}
 use Rattle.syndrome.proofs.join.instruction_abort.Statement.{statement}

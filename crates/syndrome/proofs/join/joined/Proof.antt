@@ -1,3 +1,5 @@
+-- `syndrome::join::joined` meets its contract: each arm puts its kind's fields together.
+-- Assumes nothing.
 use borrow.Author.Needs.{needs}
 use Rattle.bits.specs.Layout.{joinedFrom}
 use Rattle.syndrome.specs.Fields.{fieldsOf}

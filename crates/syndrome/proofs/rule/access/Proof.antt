@@ -1,3 +1,5 @@
+-- `syndrome::rule::access` meets its contract: each call's answer is its rule.
+-- Assumes nothing.
 use borrow.Author.Needs.{needs}
 use Rattle.syndrome.proofs.rule.access.Statement.{statement}
 use Rattle.syndrome.proofs.rule.access.Tie as tie

@@ -1,3 +1,5 @@
+-- `syndrome::rule::allowed` meets its contract: each arm's test is the rule of its kind.
+-- Assumes nothing.
 use borrow.Author.Needs.{needs}
 use mathlib.Core.Path.{_∙_, sym}
 use mathlib.Core.Bool.{Bool, _&&_, and-true}

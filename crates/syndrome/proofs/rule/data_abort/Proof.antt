@@ -1,3 +1,5 @@
+-- `syndrome::rule::data_abort` meets its contract: each call's answer is its rule.
+-- Assumes nothing.
 use borrow.Author.Needs.{needs}
 use Rattle.syndrome.proofs.rule.data_abort.Statement.{statement}
 use Rattle.syndrome.proofs.rule.data_abort.Tie as tie

@@ -1,3 +1,5 @@
+-- `syndrome::rule::instruction_abort` meets its contract: each call's answer is its rule.
+-- Assumes nothing.
 use borrow.Author.Needs.{needs}
 use Rattle.syndrome.proofs.rule.instruction_abort.Statement.{statement}
 use Rattle.syndrome.proofs.rule.instruction_abort.Tie as tie

@@ -1,3 +1,5 @@
+-- `syndrome::rule::ldc` meets its contract: each call's answer is its rule.
+-- Assumes nothing.
 use borrow.Author.Needs.{needs}
 use Rattle.syndrome.proofs.rule.ldc.Statement.{statement}
 use Rattle.syndrome.proofs.rule.ldc.Tie as tie

@@ -1,3 +1,5 @@
+-- `syndrome::rule::mcr` meets its contract: each call's answer is its rule.
+-- Assumes nothing.
 use borrow.Author.Needs.{needs}
 use Rattle.syndrome.proofs.rule.mcr.Statement.{statement}
 use Rattle.syndrome.proofs.rule.mcr.Tie as tie

@@ -1,3 +1,5 @@
+-- `syndrome::rule::simd` meets its contract: each call's answer is its rule.
+-- Assumes nothing.
 use borrow.Author.Needs.{needs}
 use Rattle.syndrome.proofs.rule.simd.Statement.{statement}
 use Rattle.syndrome.proofs.rule.simd.Tie as tie

@@ -1,3 +1,5 @@
+-- `syndrome::split::data_abort` meets its contract: each field is what the call for its bits ensures.
+-- Assumes nothing.
 use borrow.Author.Needs.{needs}
 use Rattle.syndrome.proofs.split.data_abort.Statement.{statement}
 use Rattle.syndrome.proofs.split.data_abort.Tie as tie

@@ -1,3 +1,5 @@
+-- `syndrome::split::found_at` meets its contract: each arm's number decides which layout is meant; a class that no arm has, no layout has.
+-- Assumes nothing.
 use borrow.Author.Needs.{needs}
 use mathlib.Core.Path.{_≡_, refl, _∙_, sym, ap, subst}
 use mathlib.Core.Logic.{inl, inr, ⊎-elim}

@@ -1,3 +1,5 @@
+-- `syndrome::split::found_in` meets its contract: the class is EC.
+-- Assumes nothing.
 use borrow.Author.Needs.{needs}
 use Rattle.syndrome.proofs.split.found_in.Statement.{statement}
 use Rattle.syndrome.proofs.split.found_in.Tie as tie

@@ -1,3 +1,5 @@
+-- `syndrome::split::instruction_abort` meets its contract: each field is what the call for its bits ensures.
+-- Assumes nothing.
 use borrow.Author.Needs.{needs}
 use Rattle.syndrome.proofs.split.instruction_abort.Statement.{statement}
 use Rattle.syndrome.proofs.split.instruction_abort.Tie as tie

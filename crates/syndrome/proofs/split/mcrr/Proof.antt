@@ -1,3 +1,5 @@
+-- `syndrome::split::mcrr` meets its contract: each field is what the call for its bits ensures.
+-- Assumes nothing.
 use borrow.Author.Needs.{needs}
 use Rattle.syndrome.proofs.split.mcrr.Statement.{statement}
 use Rattle.syndrome.proofs.split.mcrr.Tie as tie
