@@ -24,14 +24,14 @@ addressingRule am direction =
 abbrev pub passedRule : Bool → Bool → ℕ → Bool
 passedRule ccknownpass cv cond = ccknownpass || not cv && eqb cond 0
 
--- codes 0x00..0x0F, 0x29, 0x2B: a fault of the translation itself
-abbrev pub translationCode : ℕ → Bool
-translationCode code = leb code 0x0F || eqb code 0x29 || eqb code 0x2B
+-- codes 0x00..0x0F, 0x29, 0x2B: address size, translation, access flag and permission faults
+abbrev pub mmuFault : ℕ → Bool
+mmuFault code = leb code 0x0F || eqb code 0x29 || eqb code 0x2B
 
--- both aborts: FnV only with code 0x10, EA only with 0x10..0x1F, S1PTW only with a fault of the translation
+-- both aborts: FnV only with code 0x10, EA only with 0x10..0x1F, S1PTW only with an MMU fault
 abbrev pub abortRule : Bool → Bool → Bool → ℕ → Bool
 abortRule fnv ea s1ptw code =
-    implies fnv (eqb code 0x10) && implies ea (between 0x10 0x1F code) && implies s1ptw (translationCode code)
+    implies fnv (eqb code 0x10) && implies ea (between 0x10 0x1F code) && implies s1ptw (mmuFault code)
 
 -- ISV 0 needs 23:14 zero
 abbrev pub noSyndromeRule : DataAbort → Bool

@@ -190,7 +190,7 @@ fn error_type(set: u32, code: u32) -> u32
 fn syndrome_code(isv: bool, code: u32) -> u32
     ensures { λ m. ⌜ m ≡ maskOf (λ e. isvRule e isv code) ⌝ }
 {
-    if !isv | rule::translation(code) {
+    if !isv | rule::mmu_fault(code) {
         ALL
     } else if (0x13 <= code) & (code <= 0x17) {
         NO_RAS

@@ -3,7 +3,7 @@ ghost use mathlib.Core.Path.{_≡_};
 ghost use mathlib.Core.Bool.{_&&_};
 ghost use Rattle.bits.specs.Layout.{fitting};
 ghost use Rattle.syndrome.specs.Fields.{plainFields, wfxFields, mcrFields, mcrrFields, ldcFields, simdFields, callFields, smcFields, instructionAbortFields, dataAbortFields, fieldsOf};
-ghost use Rattle.syndrome.specs.Rule.{conditionRule, addressingRule, passedRule, translationCode, abortRule, noSyndromeRule, validSyndromeRule, syndromeRule, extensionRule, maintenanceRule, dataRule, layoutRule};
+ghost use Rattle.syndrome.specs.Rule.{conditionRule, addressingRule, passedRule, mmuFault, abortRule, noSyndromeRule, validSyndromeRule, syndromeRule, extensionRule, maintenanceRule, dataRule, layoutRule};
 use super::record::Call;
 use super::record::DataAbort;
 use super::record::InstructionAbort;
@@ -30,9 +30,9 @@ fn addressing(am: u32, direction: bool) -> bool
     !(am == 0b101) & !(am == 0b111) & (!((am == 0b100) | (am == 0b110)) | direction)
 }
 
-// A fault of the translation itself.
-pub fn translation(code: u32) -> bool
-    ensures { λ yes. ⌜ yes ≡ translationCode code ⌝ }
+// An address size, translation, access flag or permission fault.
+pub fn mmu_fault(code: u32) -> bool
+    ensures { λ yes. ⌜ yes ≡ mmuFault code ⌝ }
 {
     (code <= 0x0F) | (code == 0x29) | (code == 0x2B)
 }
@@ -40,9 +40,7 @@ pub fn translation(code: u32) -> bool
 fn abort(fnv: bool, ea: bool, s1ptw: bool, code: u32) -> bool
     ensures { λ yes. ⌜ yes ≡ abortRule fnv ea s1ptw code ⌝ }
 {
-    (!fnv | (code == 0x10))
-        & (!ea | ((0x10 <= code) & (code <= 0x1F)))
-        & (!s1ptw | translation(code))
+    (!fnv | (code == 0x10)) & (!ea | ((0x10 <= code) & (code <= 0x1F))) & (!s1ptw | mmu_fault(code))
 }
 
 fn plain(r: Plain) -> bool

@@ -4,11 +4,11 @@ use borrow.Author.Needs.{needs}
 use Rattle.syndrome.proofs.rule.abort.Statement.{statement}
 use Rattle.syndrome.proofs.rule.abort.Tie as tie
 
-translation-requires : tie.Need-translation-requires
-translation-requires c κs = search needs
+mmu-fault-requires : tie.Need-mmu-fault-requires
+mmu-fault-requires c κs = search needs
 
 returns : tie.Need-returns
-returns c = rw (c .translation .ensures)
+returns c = rw (c .mmu-fault .ensures)
 
 pub abort-spec : {M : Type 1} → statement M
-abort-spec = tie.close (tie.spec translation-requires returns)
+abort-spec = tie.close (tie.spec mmu-fault-requires returns)
