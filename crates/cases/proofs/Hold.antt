@@ -19,7 +19,7 @@ use Rattle.syndrome.specs.Answer.{readRecord, readOf}
 use Rattle.syndrome.specs.declared.record.Record.{Record}
 use Rattle.syndrome.specs.declared.answer.Read.{Read}
 use Rattle.guest.specs.Status.{isMode, sound, entryStatus}
-use Rattle.guest.specs.Tests.{aligned, writable, addressFits}
+use Rattle.guest.specs.Tests.{aligned}
 use Rattle.guest.specs.Mode.{linkRegister}
 use Rattle.guest.specs.Injection.{modeOf}
 use Rattle.bits.specs.Field.{bitOf}
@@ -33,7 +33,7 @@ use Rattle.guest.specs.declared.injection.Access.{Access}
 use Rattle.guest.specs.declared.state.Guest.{Guest}
 use Rattle.guest.proofs.Answers.{Passes, accepted-exactly, accepted-state}
 use Rattle.guest.proofs.Registers.{link-held}
-use Rattle.cases.specs.Case.{Leaves, Whole, AllHold}
+use Rattle.cases.specs.Case.{Leaves, Whole, Passing, AllHold}
 use Rattle.cases.specs.Starred.{store-of-3, starred}
 
 -- what holds in each of the editions, one after the other, holds in every edition
@@ -82,16 +82,14 @@ undefined s status pc vbar sctlr whole is-sound is-aligned st p v sc =
     ∙ ap₂ (λ (x y : ℕ). linkOf x (correctionOf UndefinedAt (bitOf y 5))) p st)
     (ap₂ (λ (x y : ℕ). vectorBase x y + 0x04) sc v)
 
--- a data abort of a fault and an address that pass, with the vectors that SCTLR chooses
-aborted : (s : Guest) (a : Access) (status pc sctlr : ℕ) → Whole s → sound status ≡ true → bitOf sctlr 13 ≡ true
-    → aligned (s .vbar) ≡ true → writable (DataAbort a) (s .ttbcr) ≡ true → addressFits (DataAbort a) ≡ true
-    → s .status ≡ status → s .pc ≡ pc → s .sctlr ≡ sctlr
-    → Leaves s (DataAbort a) (entryStatus Abort status sctlr) (linkOf pc (pos 8)) 0xFFFF0010
+-- a data abort of a fault and an address that pass, with high vectors
+aborted : (s : Guest) (a : Access) (status sctlr : ℕ) → Passing s a → sound status ≡ true → bitOf sctlr 13 ≡ true
+    → s .status ≡ status → s .sctlr ≡ sctlr → Leaves s (DataAbort a) (entryStatus Abort status sctlr) (linkOf (s .pc) (pos 8)) 0xFFFF0010
 unfolding stateAfter
-aborted s a status pc sctlr whole is-sound high is-aligned fault address st p sc =
-    leaves s (DataAbort a) (record { status = ap sound st ∙ is-sound; vbar = is-aligned; fault = fault; address = address })
+aborted s a status sctlr p is-sound high st sc =
+    leaves s (DataAbort a) (record { status = ap sound st ∙ is-sound; vbar = p .vbar; fault = p .fault; address = p .address })
     (ap₂ (entryStatus Abort) st sc)
-    (link-held s (DataAbort a) (subst (λ (n : ℕ). 20 < n) (sym whole) (lit< tt)) ∙ ap (λ (x : ℕ). linkOf x (pos 8)) p)
+    (link-held s (DataAbort a) (subst (λ (n : ℕ). 20 < n) (sym (p .whole)) (lit< tt)))
     (ap (λ (b : Bool). cond b 0xFFFF_0000 (s .vbar) + 0x10) (ap (λ (w : ℕ). bitOf w 13) sc ∙ high))
 
 -- 0x91830005: a word load of register 3 with IL 0
@@ -147,9 +145,9 @@ all-hold = (
                           (
                             λ s whole st p v sc. undefined s 0x30 0x8000 0x1000 0 whole refl refl st p v sc,
                             (
-                              λ s a whole al f ad st p sc. aborted s a 0x10 0x8000 0x42002000 whole refl refl al f ad st p sc,
+                              λ s a p st sc. aborted s a 0x10 0x42002000 p refl refl st sc,
                               (
-                                λ s a whole al f ad st p sc. aborted s a 0x10 0xFFFFFFFC 0x42002000 whole refl refl al f ad st p sc,
+                                λ s a p st sc pc. aborted s a 0x10 0x42002000 p refl refl st sc .new-link ∙ ap (λ (n : ℕ). linkOf n (pos 8)) pc,
                                 tt,
                               ),
                             ),

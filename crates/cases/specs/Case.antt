@@ -3,6 +3,7 @@ use mathlib.Core.Path.{_≡_}
 use mathlib.Core.Bool.{true}
 use mathlib.Core.List.{List, [], _∷_}
 use Prim.Native.Nat.{ℕ, _<_}
+use lib.IntN.{pos}
 use lib.ListN.{length, getD}
 use Rattle.edition.specs.Feature.{editions}
 use Rattle.edition.specs.Judge.{numberOf, maskIn, countIn}
@@ -11,6 +12,7 @@ use Rattle.syndrome.specs.Answer.{readOf}
 use Rattle.syndrome.specs.declared.record.Record.{Record}
 use Rattle.syndrome.specs.declared.answer.Read.{Read}
 use Rattle.guest.specs.Inject.{injected}
+use Rattle.guest.specs.Link.{linkOf}
 use Rattle.guest.specs.Mode.{linkRegister}
 use Rattle.guest.specs.Injection.{modeOf}
 use Rattle.guest.specs.Tests.{aligned, writable, addressFits}
@@ -45,21 +47,33 @@ pub data Case : Type 0 where
   reads : ℕ → Answers → Case
   -- an undefined instruction at PC: status, PC, VBAR and SCTLR; then the new status, link and PC
   undefined-at : ℕ → ℕ → ℕ → ℕ → ℕ → ℕ → ℕ → Case
-  -- a data abort: status, PC and SCTLR; then the new status, link and PC
-  data-abort : ℕ → ℕ → ℕ → ℕ → ℕ → ℕ → Case
+  -- a data abort: status and SCTLR; then the new status and PC
+  data-abort : ℕ → ℕ → ℕ → ℕ → Case
+  -- a data abort: status, SCTLR and PC; then the link
+  data-abort-link : ℕ → ℕ → ℕ → ℕ → Case
 
 -- a state's 31 registers, whatever they hold
 abbrev pub Whole : Guest → Type 0
 Whole s = length (s .regs) ≡ 31
+
+-- a whole state, and a data abort whose fault and address pass in it
+pub record Passing (s : Guest) (a : Access) : Type 0 where
+  pub whole : Whole s
+  pub vbar : aligned (s .vbar) ≡ true
+  pub fault : writable (DataAbort a) (s .ttbcr) ≡ true
+  pub address : addressFits (DataAbort a) ≡ true
 
 abbrev pub Holds : Case → Type 0
 Holds (reads-in e w answers) = AnswersAs (readOf e w) answers
 Holds (reads w answers) = (e : ℕ) → e < editions → AnswersAs (readOf e w) answers
 Holds (undefined-at status pc vbar sctlr status′ link pc′) =
     (s : Guest) → Whole s → s .status ≡ status → s .pc ≡ pc → s .vbar ≡ vbar → s .sctlr ≡ sctlr → Leaves s UndefinedAt status′ link pc′
-Holds (data-abort status pc sctlr status′ link pc′) =
-    (s : Guest) (a : Access) → Whole s → aligned (s .vbar) ≡ true → writable (DataAbort a) (s .ttbcr) ≡ true
-    → addressFits (DataAbort a) ≡ true → s .status ≡ status → s .pc ≡ pc → s .sctlr ≡ sctlr → Leaves s (DataAbort a) status′ link pc′
+Holds (data-abort status sctlr status′ pc′) =
+    (s : Guest) (a : Access) → Passing s a → s .status ≡ status → s .sctlr ≡ sctlr
+    → Leaves s (DataAbort a) status′ (linkOf (s .pc) (pos 8)) pc′
+Holds (data-abort-link status sctlr pc link) =
+    (s : Guest) (a : Access) → Passing s a → s .status ≡ status → s .sctlr ≡ sctlr → s .pc ≡ pc
+    → getD (injected s (DataAbort a) .state .regs) (linkRegister (modeOf (DataAbort a))) 0 ≡ link
 
 -- the one statement of a list of cases
 abbrev pub AllHold : List Case → Type 0

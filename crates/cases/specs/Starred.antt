@@ -2,7 +2,7 @@
 use mathlib.Core.Bool.{true, false}
 use mathlib.Core.List.{List, [], _∷_}
 use Rattle.syndrome.specs.declared.record.Record.{Record}
-use Rattle.cases.specs.Case.{Case, record-read, taken, refused, reads-in, reads, undefined-at, data-abort}
+use Rattle.cases.specs.Case.{Case, record-read, taken, refused, reads-in, reads, undefined-at, data-abort, data-abort-link}
 
 -- a word store of register 3 that missed in the level 1 table
 abbrev pub store-of-3 : Record
@@ -34,4 +34,4 @@ starred =
     ∷ reads-in 1 0x92000018 (refused 6 85 4) ∷ reads-in 7 0x9200001B (refused 6 68 2) ∷ reads-in 3 0x92000031 (refused 6 240 4)
     ∷ reads-in 0 0x92001010 (refused 6 170 4) ∷ reads 0x92000810 (refused 5 0 0) ∷ reads-in 1 0x93830014 (refused 6 85 4)
     ∷ undefined-at 0x10 0x8000 0x1000 0 0x9B 0x8004 0x1004 ∷ undefined-at 0x30 0x8000 0x1000 0 0x9B 0x8002 0x1004
-    ∷ data-abort 0x10 0x8000 0x42002000 0x3B7 0x8008 0xFFFF0010 ∷ data-abort 0x10 0xFFFFFFFC 0x42002000 0x3B7 4 0xFFFF0010 ∷ []
+    ∷ data-abort 0x10 0x42002000 0x3B7 0xFFFF0010 ∷ data-abort-link 0x10 0x42002000 0xFFFFFFFC 4 ∷ []

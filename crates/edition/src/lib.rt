@@ -1,6 +1,6 @@
 // Editions of the Arm manual as sets of chip features, masks of editions, and the refusals that go by them.
 ghost use mathlib.Core.Path.{_≡_};
-ghost use Rattle.edition.specs.Feature.{isEdition};
+ghost use Rattle.edition.specs.Feature.{isEdition, lpa2};
 ghost use Rattle.edition.specs.Judge.{numberOf, maskIn, countIn, judgeOf};
 
 // How many editions there are. A mask of editions is a u32, which has room for more.
@@ -83,6 +83,13 @@ pub fn known(edition: u32) -> bool
     ensures { λ r. ⌜ r ≡ isEdition edition ⌝ }
 {
     edition < EDITIONS
+}
+
+// Whether an edition has LPA2, which counts 2.
+pub fn has_lpa2(edition: u32) -> bool
+    ensures { λ r. ⌜ r ≡ lpa2 edition ⌝ }
+{
+    bits::bit(edition as u64, 1)
 }
 
 // What an edition says of something that the editions of a mask have.

@@ -2,7 +2,7 @@
 use Prim.Native.Nat.{ℕ, _+_, _-_, _*_, _^_}
 use Rattle.edition.specs.Judge.{numberOf, maskIn, countIn}
 use Rattle.edition.specs.declared.Refusal.{Refusal}
-use Rattle.syndrome.specs.Answer.{readOf, writeOf}
+use Rattle.syndrome.specs.Answer.{numberRead, maskRead, countRead, readOf, writeOf}
 use Rattle.syndrome.specs.declared.answer.Read.{Read}
 use Rattle.syndrome.specs.declared.answer.Written.{Written}
 
@@ -11,8 +11,7 @@ abbrev pub packedRefusal : Refusal → ℕ
 packedRefusal f = numberOf f + maskIn f * 2 ^ 8 + countIn f * 2 ^ 24
 
 abbrev pub packedAnswer : Read → ℕ
-packedAnswer (Read.Taken r) = 0
-packedAnswer (Read.Refused f) = packedRefusal f
+packedAnswer a = numberRead a + maskRead a * 2 ^ 8 + countRead a * 2 ^ 24
 
 abbrev pub packedRead : ℕ → ℕ → ℕ
 packedRead e w = packedAnswer (readOf e w)

@@ -11,3 +11,4 @@ pub mod Demand2
 pub mod Refusal6
 pub mod Demand3
 pub mod NotEmpty
+pub mod Numbers

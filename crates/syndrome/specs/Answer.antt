@@ -6,7 +6,7 @@ use Rattle.bits.specs.Field.{fieldOf}
 use Rattle.bits.specs.Layout.{wordOf}
 use Rattle.edition.specs.Feature.{isEdition}
 use Rattle.edition.specs.Mask.{maskOf}
-use Rattle.edition.specs.Judge.{judgeOf}
+use Rattle.edition.specs.Judge.{numberOf, maskIn, countIn, judgeOf}
 use Rattle.edition.specs.declared.Refusal.the-variants.{UnknownEdition, UpperHalf, UnknownClass, ShortInstruction, NoEdition}
 use Rattle.edition.specs.declared.Verdict.{Verdict}
 use Rattle.syndrome.specs.Class.{ownClass}
@@ -34,6 +34,31 @@ hasFound e Found.UnknownClass w = false
 
 unfoldable pub hasWord : ℕ → ℕ → Bool
 hasWord e w = hasFound e (foundIn w) w
+
+-- number, mask and number of ones of each answer: 0, 0, 0 where a record or a word is given, else the refusal's
+abbrev pub numberRead : Read → ℕ
+numberRead (Read.Taken r) = 0
+numberRead (Read.Refused refusal) = numberOf refusal
+
+abbrev pub maskRead : Read → ℕ
+maskRead (Read.Taken r) = 0
+maskRead (Read.Refused refusal) = maskIn refusal
+
+abbrev pub countRead : Read → ℕ
+countRead (Read.Taken r) = 0
+countRead (Read.Refused refusal) = countIn refusal
+
+abbrev pub numberWritten : Written → ℕ
+numberWritten (Written.Word esr) = 0
+numberWritten (Written.Refused refusal) = numberOf refusal
+
+abbrev pub maskWritten : Written → ℕ
+maskWritten (Written.Word esr) = 0
+maskWritten (Written.Refused refusal) = maskIn refusal
+
+abbrev pub countWritten : Written → ℕ
+countWritten (Written.Word esr) = 0
+countWritten (Written.Refused refusal) = countIn refusal
 
 -- Reading: 1, 2, 3 and 4 in this order, then the judgement on the editions that have the word.
 abbrev pub readVerdict : Record → Verdict → Read

@@ -128,7 +128,7 @@ fn no_syndrome(r: DataAbort) -> bool
     (r.sas == 0) & !r.sse & (r.srt == 0) & !r.sf & !r.ar
 }
 
-// ISV 1: an AArch32 load or store of one register other than PC.
+// ISV 1: a load or store of one register that an AArch32 guest can name; 15 and 31 are none of its numbers.
 fn valid_syndrome(r: DataAbort) -> bool
     ensures { λ yes. ⌜ yes ≡ validSyndromeRule r ⌝ }
 {

@@ -9,11 +9,29 @@ use Rattle.syndrome.specs.declared.record.Record.{Record}
 use Rattle.trap.specs.Known.{intermediateKnown, s1ptwOf, farCounts, hpfarCounts}
 use Rattle.trap.specs.Page.{hpfarRule}
 use Rattle.trap.specs.Trap.{pageAddress, intermediateOf, trapOf}
-use Rattle.trap.specs.Shown.{virtualIn, intermediateIn}
+use Rattle.trap.specs.Shown.{recordIn, virtualIn, intermediateIn}
 use Rattle.trap.specs.declared.VirtualAddress.{VirtualAddress}
 use Rattle.trap.specs.declared.IntermediateAddress.{IntermediateAddress}
 use Rattle.trap.specs.declared.Trap.{Trap}
 use Rattle.trap.proofs.Pages.{page-address}
+
+-- a trap holds the record that it was made of
+pub record-shown : (e : ℕ) (r : Record) (far hpfar : ℕ) → recordIn (trapOf e r far hpfar) ≡ r
+record-shown e (Record.Plain r) far hpfar = by (eqb (r .class) 0x22)
+  where
+    by : (b : Bool) → recordIn (cond b (Trap.Addressed record { syndrome = Record.Plain r; address = far }) (Trap.Plain (Record.Plain r)))
+        ≡ Record.Plain r
+    by true = refl
+    by false = refl
+record-shown e (Record.Wfx r) far hpfar = refl
+record-shown e (Record.Mcr r) far hpfar = refl
+record-shown e (Record.Mcrr r) far hpfar = refl
+record-shown e (Record.Ldc r) far hpfar = refl
+record-shown e (Record.Simd r) far hpfar = refl
+record-shown e (Record.Call r) far hpfar = refl
+record-shown e (Record.Smc r) far hpfar = refl
+record-shown e (Record.InstructionAbort r) far hpfar = refl
+record-shown e (Record.DataAbort r) far hpfar = refl
 
 -- FAR is the virtual address exactly where it counts
 pub virtual-shown : (e : ℕ) (r : Record) (far hpfar : ℕ)

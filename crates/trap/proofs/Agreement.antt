@@ -20,10 +20,13 @@ use Rattle.trap.specs.Known.{intermediateKnown, farCounts, hpfarCounts}
 use Rattle.trap.specs.Page.{hpfarRule, farRule}
 use Rattle.trap.specs.Trap.{virtualOf, intermediateOf, abortOf, trapOf}
 use Rattle.trap.specs.Answer.{answerRecord, answerRead, answerOf}
+use Rattle.trap.specs.Shown.{recordIn, virtualIn, intermediateIn}
+use Rattle.trap.specs.declared.VirtualAddress.{VirtualAddress}
 use Rattle.trap.specs.declared.IntermediateAddress.{IntermediateAddress}
 use Rattle.trap.specs.declared.Trap.{Trap}
 use Rattle.trap.specs.declared.TrapRefusal.{TrapRefusal}
 use Rattle.trap.specs.declared.Answer.{Answer}
+use Rattle.trap.proofs.Addresses.{record-shown, virtual-shown, intermediate-hidden}
 use Rattle.trap.proofs.Pages.{page-address}
 use Rattle.trap.proofs.Steps.{read-hpfar, read-far, read-shown}
 
@@ -54,6 +57,38 @@ module _ (e esr far hpfar : ℕ) where
       by (Read.Refused refusal) is =
           let refused : Answer.Refused (TrapRefusal.Syndrome refusal) ≡ Answer.Shown t = sym (ap (λ (x : Read). answerRead e x far hpfar) is) ∙ shown in
           absurd-answer (cc refused)
+
+  -- a taken syndrome whose registers pass is shown, 0 exactly when no test fails; else the first test that fails gives 7 or 8
+  at-taken : (r : Record) → readOf e esr ≡ Read.Taken r → answerOf e esr far hpfar ≡ answerRecord e r far hpfar
+  unfolding answerOf
+  at-taken r is = ap (λ (x : Read). answerRead e x far hpfar) is
+
+  pub shown-exactly : (t : Trap) → (answerOf e esr far hpfar ≡ Answer.Shown t) ↔ ShownBy e esr far hpfar t
+  shown-exactly t = (
+    shown-by t,
+    λ x. at-taken (x .syndrome) (x .taken) ∙ read-shown e (x .syndrome) far hpfar (x .hpfar-right) (x .far-right) ∙ ap Answer.Shown (x .trap),
+  )
+
+  pub hpfar-refused : (r : Record) → readOf e esr ≡ Read.Taken r → (hpfarCounts r && not (hpfarRule e hpfar)) ≡ true
+      → answerOf e esr far hpfar ≡ Answer.Refused TrapRefusal.Hpfar
+  hpfar-refused r is h = at-taken r is ∙ read-hpfar e r far hpfar h
+
+  pub far-refused : (r : Record) → readOf e esr ≡ Read.Taken r → (hpfarCounts r && not (hpfarRule e hpfar)) ≡ false
+      → (farCounts r && not (farRule far)) ≡ true → answerOf e esr far hpfar ≡ Answer.Refused TrapRefusal.Far
+  far-refused r is h f = at-taken r is ∙ read-far e r far hpfar h f
+
+  -- what a trap that is shown holds: the record that the syndrome reader takes, and exactly the addresses that are known
+  pub shown-holds : (t : Trap) (r : Record) → answerOf e esr far hpfar ≡ Answer.Shown t → readOf e esr ≡ Read.Taken r
+      → (recordIn t ≡ r) × (virtualIn t ≡ cond (farCounts r) (VirtualAddress.Known far) VirtualAddress.Unknown)
+      × (hpfarCounts r ≡ false → intermediateIn t ≡ IntermediateAddress.None)
+  shown-holds t r shown is =
+      let x = shown-by t shown in
+      let one : x .syndrome ≡ r = cc (x .taken, is) in
+      let made : t ≡ trapOf e r far hpfar = sym (x .trap) ∙ ap (λ (q : Record). trapOf e q far hpfar) one in (
+        ap recordIn made ∙ record-shown e r far hpfar,
+        ap virtualIn made ∙ virtual-shown e r far hpfar,
+        λ h. ap intermediateIn made ∙ intermediate-hidden e r far hpfar h,
+      )
 
   -- reading the whole trap refuses as the syndrome reader does, exactly where that does
   pub refused-alike : (refusal : Refusal)

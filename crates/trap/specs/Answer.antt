@@ -26,6 +26,19 @@ countIn (TrapRefusal.Syndrome refusal) = Judge.countIn refusal
 countIn TrapRefusal.Hpfar = 0
 countIn TrapRefusal.Far = 0
 
+-- number, mask and number of ones of each answer: 0, 0, 0 where a trap is shown, else the refusal's
+abbrev pub numberAnswer : Answer → ℕ
+numberAnswer (Answer.Shown trap) = 0
+numberAnswer (Answer.Refused refusal) = numberOf refusal
+
+abbrev pub maskAnswer : Answer → ℕ
+maskAnswer (Answer.Shown trap) = 0
+maskAnswer (Answer.Refused refusal) = maskIn refusal
+
+abbrev pub countAnswer : Answer → ℕ
+countAnswer (Answer.Shown trap) = 0
+countAnswer (Answer.Refused refusal) = countIn refusal
+
 -- the syndrome is taken: 7, then 8, then the trap
 unfoldable pub answerRecord : ℕ → Record → ℕ → ℕ → Answer
 answerRecord e r far hpfar =

@@ -44,6 +44,7 @@ pub struct Addressed {
     pub address: u64,
 }
 
+// A trap with the addresses that its class has.
 pub enum Trap {
     Abort(Abort),
     Addressed(Addressed),
@@ -112,6 +113,7 @@ fn intermediate_known(s1ptw: bool, code: u32) -> bool
     (code <= 0x0B) | (code == 0x29) | (code == 0x2B) | (0x0C <= code) & (code <= 0x0F) & s1ptw
 }
 
+// Whether FAR gives an address that is known.
 fn far_counts(r: Record) -> bool
     ensures { λ yes. ⌜ yes ≡ farCounts r ⌝ }
 {
@@ -129,6 +131,7 @@ fn far_counts(r: Record) -> bool
     }
 }
 
+// Whether HPFAR gives an address that is known.
 fn hpfar_counts(r: Record) -> bool
     ensures { λ yes. ⌜ yes ≡ hpfarCounts r ⌝ }
 {
@@ -150,9 +153,10 @@ fn hpfar_counts(r: Record) -> bool
 fn page_top(edition: u32) -> u32
     ensures { λ n. ⌜ n ≡ pageTop edition ⌝ }
 {
-    if bits::bit(edition as u64, 1) { 43 } else { 39 }
+    if edition::has_lpa2(edition) { 43 } else { 39 }
 }
 
+// The page number, of at most 40 bits.
 fn page_number(edition: u32, hpfar: u64) -> u64
     ensures { λ n. ⌜ n ≡ pageNumber edition hpfar ⌝ }
     ensures { λ n. ⌜ n < 2 ^ 40 ⌝ }
@@ -160,18 +164,21 @@ fn page_number(edition: u32, hpfar: u64) -> u64
     bits::field(hpfar, page_top(edition), 4)
 }
 
+// Whether no bit outside the page field is set.
 fn hpfar_allowed(edition: u32, hpfar: u64) -> bool
     ensures { λ yes. ⌜ yes ≡ hpfarRule edition hpfar ⌝ }
 {
     page_number(edition, hpfar) * 16 == hpfar
 }
 
+// Whether bits 63:32 are zero: the guest's addresses have 32 bits.
 fn far_allowed(far: u64) -> bool
     ensures { λ yes. ⌜ yes ≡ farRule far ⌝ }
 {
     bits::field(far, 63, 32) == 0
 }
 
+// FAR, where it is known.
 fn virtual_address(fnv: bool, code: u32, far: u64) -> VirtualAddress
     ensures { λ a. ⌜ a ≡ virtualOf fnv code far ⌝ }
 {
@@ -182,6 +189,7 @@ fn virtual_address(fnv: bool, code: u32, far: u64) -> VirtualAddress
     }
 }
 
+// The page, with FAR bits 11:0 unless the fault was on a stage 1 table walk: FAR isn't the walked address.
 fn intermediate_address(
     edition: u32,
     s1ptw: bool,
@@ -202,6 +210,7 @@ fn intermediate_address(
     }
 }
 
+// The trap of an abort.
 fn aborted(edition: u32, r: Record, fnv: bool, s1ptw: bool, code: u32, far: u64, hpfar: u64) -> Trap
     ensures { λ t. ⌜ t ≡ abortOf edition r fnv s1ptw code far hpfar ⌝ }
 {
@@ -214,6 +223,7 @@ fn aborted(edition: u32, r: Record, fnv: bool, s1ptw: bool, code: u32, far: u64,
     })
 }
 
+// The trap of a class without fields: a PC alignment fault has an address.
 fn unaborted(r: Record, class: u32, far: u64) -> Trap
     ensures { λ t. ⌜ t ≡ plainOf r class far ⌝ }
 {
@@ -227,6 +237,7 @@ fn unaborted(r: Record, class: u32, far: u64) -> Trap
     }
 }
 
+// The trap of a record, by its kind.
 fn shown(edition: u32, r: Record, far: u64, hpfar: u64) -> Trap
     ensures { λ t. ⌜ t ≡ trapOf edition r far hpfar ⌝ }
 {
@@ -244,6 +255,7 @@ fn shown(edition: u32, r: Record, far: u64, hpfar: u64) -> Trap
     }
 }
 
+// Tests the registers that count, and shows the trap.
 fn read_record(edition: u32, r: Record, far: u64, hpfar: u64) -> Answer
     ensures { λ a. ⌜ a ≡ answerRecord edition r far hpfar ⌝ }
 {
@@ -266,10 +278,10 @@ pub fn read(edition: u32, esr: Esr, far: Far, hpfar: Hpfar) -> Answer
     }
 }
 
-// One trap in two editions: what both show, or that one of them refuses it.
+// One trap in two editions: what both show, or the refusal of the first that refuses it.
 pub enum Both {
     Shown(Trap, Trap),
-    NotBoth,
+    Refused(TrapRefusal),
 }
 
 // Reads a whole trap in two editions: where both show it, they show the same.
@@ -279,8 +291,8 @@ pub fn read_both(first: u32, second: u32, esr: Esr, far: Far, hpfar: Hpfar) -> B
     match read(first, esr, far, hpfar) {
         Answer::Shown(trap) => match read(second, esr, far, hpfar) {
             Answer::Shown(other) => Both::Shown(trap, other),
-            Answer::Refused(_) => Both::NotBoth,
+            Answer::Refused(refusal) => Both::Refused(refusal),
         },
-        Answer::Refused(_) => Both::NotBoth,
+        Answer::Refused(refusal) => Both::Refused(refusal),
     }
 }

@@ -30,11 +30,11 @@ read-requires-2 c κs = search needs
 enum-known-other : tie.Need-enum-known-other
 enum-known-other c = search needs
 
-enum-told : tie.Need-enum-told
-enum-told c = search needs
+enum-known-refusal : tie.Need-enum-known-refusal
+enum-known-refusal c = search needs
 
-enum-told-2 : tie.Need-enum-told-2
-enum-told-2 c = search needs
+enum-known-refusal-2 : tie.Need-enum-known-refusal-2
+enum-known-refusal-2 c = search needs
 
 returns : tie.Need-returns
 unfolding bothOf
@@ -47,15 +47,15 @@ returns c =
 returns-2 : tie.Need-returns-2
 unfolding bothOf
 returns-2 c =
-    let first = sym (c .before .before .before .before .before .before .read .ensures) ∙ c .before .before .before .before .trap .given .1 in
-    let second = sym (c .before .before .read2 .ensures) ∙ c .enum-told .given .1 in
+    let first = sym (c .before .before .before .before .before .before .before .read .ensures) ∙ c .before .before .before .before .before .trap .given .1 in
+    let second = sym (c .before .before .before .read2 .ensures) ∙ c .before .refusal .given .1 in
     sym (ap₂ bothFrom first second)
 
 returns-3 : tie.Need-returns-3
 unfolding bothOf
 returns-3 c =
-    let a = c .before .before .before .args in
-    sym (ap (λ (x : Answer). bothFrom x (answerOf (a .second) (a .esr .0) (a .far .0) (a .hpfar .0))) (sym (c .before .before .read .ensures) ∙ c .enum-told2 .given .1))
+    let a = c .before .before .before .before .args in
+    sym (ap (λ (x : Answer). bothFrom x (answerOf (a .second) (a .esr .0) (a .far .0) (a .hpfar .0))) (sym (c .before .before .before .read .ensures) ∙ c .before .refusal2 .given .1))
 
 pub read-both-spec : {M : Type 1} → statement M
 read-both-spec =
@@ -65,8 +65,8 @@ read-both-spec =
     enum-known-trap
     read-requires-2
     enum-known-other
-    enum-told
-    enum-told-2
+    enum-known-refusal
+    enum-known-refusal-2
     returns
     returns-2
     returns-3)

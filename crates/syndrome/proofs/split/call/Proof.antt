@@ -11,7 +11,12 @@ field32-requires : tie.Need-field32-requires
 field32-requires c κs = search needs
 
 returns : tie.Need-returns
-returns c = cc
+returns c =
+    λ i. record {
+      class = c .before .before .args .class;
+      il = c .before .bit .ensures i;
+      imm16 = c .field32 .ensures i;
+    }
 
 pub call-spec : {M : Type 1} → statement M
 call-spec = tie.close (tie.spec bit-requires field32-requires returns)

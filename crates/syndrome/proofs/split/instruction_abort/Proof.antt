@@ -23,7 +23,15 @@ field32-requires-2 : tie.Need-field32-requires-2
 field32-requires-2 c κs = search needs
 
 returns : tie.Need-returns
-returns c = cc
+returns c =
+    λ i. record {
+      il = c .before .before .before .before .before .bit .ensures i;
+      set = c .before .before .before .before .field32 .ensures i;
+      fnv = c .before .before .before .bit2 .ensures i;
+      ea = c .before .before .bit3 .ensures i;
+      s1ptw = c .before .bit4 .ensures i;
+      code = c .field322 .ensures i;
+    }
 
 pub instruction-abort-spec : {M : Type 1} → statement M
 instruction-abort-spec =

@@ -29,7 +29,17 @@ bit-requires-4 : tie.Need-bit-requires-4
 bit-requires-4 c κs = search needs
 
 returns : tie.Need-returns
-returns c = cc
+returns c =
+    λ i. record {
+      il = c .before .before .before .before .before .before .before .bit .ensures i;
+      cv = c .before .before .before .before .before .before .bit2 .ensures i;
+      cond = c .before .before .before .before .before .field32 .ensures i;
+      imm8 = c .before .before .before .before .field322 .ensures i;
+      rn = c .before .before .before .field323 .ensures i;
+      offset = c .before .before .bit3 .ensures i;
+      am = c .before .field324 .ensures i;
+      direction = c .bit4 .ensures i;
+    }
 
 pub ldc-spec : {M : Type 1} → statement M
 ldc-spec =

@@ -29,7 +29,18 @@ bit-requires-3 : tie.Need-bit-requires-3
 bit-requires-3 c κs = search needs
 
 returns : tie.Need-returns
-returns c = cc
+returns c =
+    λ i. record {
+      class = c .before .before .before .before .before .before .before .before .args .class;
+      il = c .before .before .before .before .before .before .before .bit .ensures i;
+      cv = c .before .before .before .before .before .before .bit2 .ensures i;
+      cond = c .before .before .before .before .before .field32 .ensures i;
+      opc1 = c .before .before .before .before .field322 .ensures i;
+      rt2 = c .before .before .before .field323 .ensures i;
+      rt = c .before .before .field324 .ensures i;
+      crm = c .before .field325 .ensures i;
+      direction = c .bit3 .ensures i;
+    }
 
 pub mcrr-spec : {M : Type 1} → statement M
 mcrr-spec =

@@ -8,7 +8,11 @@ bit-requires : tie.Need-bit-requires
 bit-requires c κs = search needs
 
 returns : tie.Need-returns
-returns c = cc
+returns c =
+    λ i. record {
+      class = c .before .args .class;
+      il = c .bit .ensures i;
+    }
 
 pub plain-spec : {M : Type 1} → statement M
 plain-spec = tie.close (tie.spec bit-requires returns)

@@ -14,7 +14,12 @@ field32-requires : tie.Need-field32-requires
 field32-requires c κs = search needs
 
 returns : tie.Need-returns
-returns c = cc
+returns c =
+    λ i. record {
+      il = c .before .before .bit .ensures i;
+      cv = c .before .bit2 .ensures i;
+      cond = c .field32 .ensures i;
+    }
 
 pub simd-spec : {M : Type 1} → statement M
 simd-spec = tie.close (tie.spec bit-requires bit-requires-2 field32-requires returns)

@@ -17,7 +17,13 @@ bit-requires-3 : tie.Need-bit-requires-3
 bit-requires-3 c κs = search needs
 
 returns : tie.Need-returns
-returns c = cc
+returns c =
+    λ i. record {
+      il = c .before .before .before .bit .ensures i;
+      cv = c .before .before .bit2 .ensures i;
+      cond = c .before .field32 .ensures i;
+      ti = c .bit3 .ensures i;
+    }
 
 pub wfx-spec : {M : Type 1} → statement M
 wfx-spec = tie.close (tie.spec bit-requires bit-requires-2 field32-requires bit-requires-3 returns)
