@@ -1,0 +1,129 @@
+// Reads lines from standard input, each an edition and a syndrome word, and writes what reading the word in that edition answers.
+//
+// Input and lines may have any length: a chunk of the input is held at a time, and of a line what `line` keeps of it. The answers to a
+// chunk are written before the next one is read.
+ghost use mathlib.Core.Path.{_≡_};
+ghost use Prim.Native.Nat.{_≤_, _*_};
+ghost use lib.ListN.{length, take};
+ghost use Rattle.io.specs.Counts.{Counts};
+ghost use Rattle.text.specs.Append.{Appends};
+ghost use Rattle.trapread.specs.Answer.{fieldText, refusedText, answerText};
+ghost use Rattle.trapread.specs.Lines.{lineAfter, answersIn};
+use edition::Refusal;
+use libc::STDIN_FILENO;
+use libc::STDOUT_FILENO;
+use line::Line;
+use line::State;
+use syndrome::Esr;
+use syndrome::Read;
+
+// Appends a space and a number.
+fn field(out: &mut [u8], at: usize, n: u32) -> usize
+    ensures { λ end. ⌜ Appends (fieldText n) (now (out .entry)) at (now (out .exit)) end ⌝ }
+{
+    let space = text::append(out, at, b" ");
+    text::append_decimal(out, space, n as u64)
+}
+
+fn refused(out: &mut [u8], at: usize, refusal: Refusal) -> usize
+    ensures { λ end. ⌜ Appends (refusedText refusal) (now (out .entry)) at (now (out .exit)) end ⌝ }
+{
+    let word = text::append(out, at, b"refused");
+    let number = field(out, word, edition::number(refusal));
+    let mask = field(out, number, edition::mask(refusal));
+    let count = field(out, mask, edition::count(refusal));
+    text::append(out, count, b"\n")
+}
+
+// Appends the answer to a line.
+fn answer(out: &mut [u8], at: usize, line: Line) -> usize
+    ensures { λ end. ⌜ Appends (answerText line) (now (out .entry)) at (now (out .exit)) end ⌝ }
+{
+    match line {
+        Line::Question { edition, word } => match syndrome::read(edition, Esr(word)) {
+            Read::Taken(_) => text::append(out, at, b"taken\n"),
+            Read::Refused(refusal) => refused(out, at, refusal),
+        },
+        Line::NoLine => text::append(out, at, b"no line\n"),
+    }
+}
+
+// The line that a chunk leaves unended, and the end of the answers to those that it ends.
+struct Progress {
+    line: State,
+    end: usize,
+}
+
+// Puts the answers to the lines that end in a chunk into a buffer with room for all of them: no line is shorter than its newline, and no
+// answer longer than 128 bytes.
+fn answers(out: &mut [u8], chunk: &[u8], before: State) -> Progress
+    requires { ⌜ 128 * length (now chunk) ≤ length (now out) ⌝ }
+    ensures { λ p. ⌜ p .line ≡ lineAfter before (now (chunk .entry)) ⌝ }
+    ensures { λ p. ⌜ take (p .end) (now (out .exit)) ≡ answersIn before (now (chunk .entry)) ⌝ }
+    ensures { λ p. ⌜ Counts (p .end) (now (out .exit)) ⌝ }
+{
+    let mut line = before;
+    let mut end = 0;
+    let mut i = 0;
+    while i < chunk.len() {
+        let byte = chunk[i];
+        if byte == b'\n' {
+            end = answer(out, end, line::finish(line));
+            line = line::start();
+        } else {
+            line = line::feed(line, byte);
+        }
+        i += 1;
+    }
+    Progress { line, end }
+}
+
+// The line that is left, and whether the input may go on.
+struct Turn {
+    line: State,
+    more: bool,
+}
+
+// Reads a chunk and writes its answers.
+fn next_chunk(out: &mut [u8], line: State) -> Turn
+    requires { ⌜ 128 * 512 ≤ length (now out) ⌝ }
+{
+    let mut chunk = [0u8; 512];
+    let got = libc::read(STDIN_FILENO, &mut chunk);
+    let n = io::count(got, &chunk);
+    if n == 0 {
+        return Turn { line, more: false };
+    }
+    let p = answers(out, &chunk[..n], line);
+    let end = p.end;
+    let rest = p.line;
+    Turn {
+        line: rest,
+        more: io::write_all(STDOUT_FILENO, &out[..end]),
+    }
+}
+
+// A last line may lack its newline, but what follows the last newline is no line where it is empty.
+fn last(out: &mut [u8], line: State) {
+    if line.count != 0 {
+        let end = answer(out, 0, line::finish(line));
+        io::write_all(STDOUT_FILENO, &out[..end]);
+    }
+}
+
+// A proved loop has to end, and nothing says that the input does: it counts down from a number that no run uses up.
+fn main() {
+    let mut space = io::large_buffer();
+    let out: &mut [u8] = &mut space;
+    let mut line = line::start();
+    let mut turns = u64::MAX;
+    while turns > 0 {
+        let t = next_chunk(out, line);
+        line = t.line;
+        if !t.more {
+            break;
+        }
+        turns -= 1;
+    }
+    last(out, line);
+}
