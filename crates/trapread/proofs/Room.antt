@@ -14,9 +14,8 @@ use Rattle.line.specs.declared.Line.{Line}
 use Rattle.line.specs.declared.State.{State}
 use Rattle.syndrome.specs.Answer.{readOf}
 use Rattle.syndrome.specs.declared.answer.Read.{Read}
-use Rattle.text.specs.Numeral.{decimalText}
 use Rattle.text.proofs.Numerals.{decimal-length}
-use Rattle.trapread.specs.Answer.{fieldText, refusedText, readText, answerText}
+use Rattle.trapread.specs.Answer.{refusedText, readText, answerText}
 use Rattle.trapread.specs.Lines.{answersIn}
 
 refused-length : (refusal : Refusal) → length (refusedText refusal) ≤ 128

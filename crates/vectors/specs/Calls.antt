@@ -4,6 +4,10 @@ use mathlib.Core.List.{List, [], _∷_}
 use lib.ListN.{getD}
 use Rattle.edition.specs.Judge.{numberOf, maskIn, countIn}
 use Rattle.edition.specs.declared.Refusal.{Refusal}
+use Rattle.guest.specs.Answer as Guest
+use Rattle.guest.specs.Inject.{injected}
+use Rattle.guest.specs.declared.injector.Injected.{Injected}
+use Rattle.guest.specs.declared.state.Guest.{Guest}
 use Rattle.syndrome.specs.Answer.{readOf, writeOf}
 use Rattle.syndrome.specs.declared.answer.Read.{Read}
 use Rattle.syndrome.specs.declared.answer.Written.{Written}
@@ -12,8 +16,10 @@ use Rattle.trap.specs.declared.Answer.{Answer}
 use Rattle.trap.specs.declared.TrapRefusal.{TrapRefusal}
 use Rattle.vectors.specs.Given.{fieldAt, recordFrom}
 use Rattle.vectors.specs.Flat.{recordRow}
+use Rattle.vectors.specs.Injected.{injectionFrom, guestFrom, stateRow}
 use Rattle.vectors.specs.Trapped.{trapRow}
 use Rattle.vectors.specs.declared.given.Given.{Given}
+use Rattle.vectors.specs.declared.injected.Asked.{Asked}
 use Rattle.vectors.specs.declared.Call.{Call}
 
 abbrev pub refusalRow : Refusal → List ℕ
@@ -50,7 +56,19 @@ trapAnswer (Answer.Refused refusal) = trapRefusalRow refusal
 abbrev pub trapAnswerRow : List ℕ → List ℕ
 trapAnswerRow row = trapAnswer (Trap.answerOf (fieldAt row 0) (getD row 1 0) (getD row 2 0) (getD row 3 0))
 
+-- the answer's number and the state after it
+abbrev pub injectedRow : Injected → List ℕ
+injectedRow done = Guest.numberOf (done .answer) ∷ stateRow (done .state)
+
+abbrev pub injectAsked : Guest → Asked → List ℕ
+injectAsked g (Asked.Injection what) = injectedRow (injected g what)
+injectAsked g Asked.None = []
+
+abbrev pub injectRow : List ℕ → List ℕ
+injectRow row = injectAsked (guestFrom row) (injectionFrom row)
+
 abbrev pub answerRow : Call → List ℕ → List ℕ
 answerRow Call.ReadWord row = readRow row
 answerRow Call.WriteRecord row = writeRow row
 answerRow Call.ReadTrap row = trapAnswerRow row
+answerRow Call.Inject row = injectRow row

@@ -6,16 +6,19 @@ ghost use mathlib.Core.Path.{_≡_};
 ghost use Rattle.io.specs.Counts.{Counts};
 ghost use Rattle.numbers.specs.Row.{empty, pushedAll, listed};
 ghost use Rattle.text.specs.Append.{Appends};
-ghost use Rattle.vectors.specs.Calls.{refusalRow, readRow, writeRow, trapRefusalRow, trapAnswerRow, answerRow};
+ghost use Rattle.vectors.specs.Calls.{refusalRow, readRow, writeRow, trapRefusalRow, trapAnswerRow, injectRow, answerRow};
 ghost use Rattle.vectors.specs.Lines.{answered, lineAfter, answersIn};
 
 mod flat;
 mod given;
+mod injected;
 mod trapped;
 
 use edition::Refusal;
 use flat::push_record;
 use given::Given;
+use injected::Asked;
+use injected::push_state;
 use numbers::Row;
 use numbers::State;
 use syndrome::Esr;
@@ -88,11 +91,30 @@ pub fn read_trap(row: Row) -> Row
     }
 }
 
+// Injects: the row is the injection and the guest's state.
+pub fn inject(row: Row) -> Row
+    ensures { λ r. ⌜ r ≡ pushedAll empty (injectRow (listed row)) ⌝ }
+{
+    match injected::injection(row) {
+        Asked::Injection(what) => {
+            let done = guest::inject(injected::state(row), what);
+            let answer = done.answer;
+            let after = done.state;
+            push_state(
+                numbers::push(numbers::none(), guest::number(answer) as u64),
+                after,
+            )
+        }
+        Asked::None => numbers::none(),
+    }
+}
+
 // Which call the rows ask.
 pub enum Call {
     ReadWord,
     WriteRecord,
     ReadTrap,
+    Inject,
 }
 
 pub fn answer(call: Call, row: Row) -> Row
@@ -102,6 +124,7 @@ pub fn answer(call: Call, row: Row) -> Row
         Call::ReadWord => read_word(row),
         Call::WriteRecord => write_record(row),
         Call::ReadTrap => read_trap(row),
+        Call::Inject => inject(row),
     }
 }
 

@@ -1,5 +1,4 @@
 use borrow.Author.Needs.{needs}
-use mathlib.Core.Path.{_∙_}
 use borrow.Author.Tests.{eq-eqb, ne-eqb}
 use Rattle.line.proofs.finish.Statement.{statement}
 use Rattle.line.proofs.finish.Tie as tie

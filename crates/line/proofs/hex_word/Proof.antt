@@ -15,7 +15,6 @@ use Rattle.text.specs.Digit.{hexDigit}
 use Rattle.text.specs.declared.Digit.{Digit}
 use Rattle.text.proofs.Digits.{hex-below}
 use Rattle.line.specs.Line.{onDigit, wordFrom, wordOf}
-use Rattle.line.specs.declared.Word.{Word}
 use Rattle.line.proofs.hex_word.Statement.{statement}
 use Rattle.line.proofs.hex_word.Tie as tie
 

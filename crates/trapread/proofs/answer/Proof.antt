@@ -1,7 +1,6 @@
 use borrow.Author.Needs.{needs}
 use mathlib.Core.Path.{_≡_, sym, ap, _∙_}
 use Prim.Native.Nat.{ℕ}
-use mathlib.Core.List.{List}
 use Rattle.line.specs.declared.Line.{Line}
 use Rattle.syndrome.specs.Answer.{readOf}
 use Rattle.syndrome.specs.declared.answer.Read.{Read}

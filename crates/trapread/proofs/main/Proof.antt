@@ -1,6 +1,6 @@
 -- `trapread::main` is safe and ends. The measure is the number of turns that are left, and the buffer keeps its length.
 -- Assumes nothing.
-use mathlib.Core.Path.{_≡_, refl, sym, _∙_}
+use mathlib.Core.Path.{_≡_, sym, _∙_}
 use native.Mathlib.Omega.{arith}
 use lib.ListN.{length}
 use Rattle.trapread.proofs.main.Statement.{statement}

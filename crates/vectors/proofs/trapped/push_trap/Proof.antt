@@ -1,4 +1,5 @@
 use borrow.Author.Needs.{needs}
+use mathlib.Core.List.{append-assoc}
 use Rattle.numbers.specs.Row.{pushedAll}
 use Rattle.numbers.proofs.Pushing.{pushed-both}
 use Rattle.syndrome.proofs.Arm.{at-arm}
@@ -46,7 +47,7 @@ returns : tie.Need-returns
 returns c =
     let row = c .before .before .before .before .before .before .args .row in
     at-arm (λ t. pushedAll row (trapRow t))
-    (rw (c .before .push-virtual .ensures, c .before .before .push-record .ensures, pushed-both, pushed-both) at (c .push-intermediate .ensures))
+    (simp (c .before .push-virtual .ensures, c .before .before .push-record .ensures, pushed-both, append-assoc) at (c .push-intermediate .ensures))
     (c .before .before .before .before .t .given .1)
 
 returns-2 : tie.Need-returns-2
