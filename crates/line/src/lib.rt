@@ -2,7 +2,7 @@
 //
 // `parse` reads a whole line. `start`, `feed` and `finish` read one of any length, a byte at a time.
 ghost use mathlib.Core.Path.{_≡_};
-ghost use Prim.Native.Nat.{_≤_, _*_, _<_};
+ghost use Prim.Native.Nat.{_≤_};
 ghost use lib.ListN.{length};
 ghost use Rattle.line.specs.Line.{editionDigit, wordOf, lineOf};
 ghost use Rattle.line.specs.Feed.{started, fed, finished};

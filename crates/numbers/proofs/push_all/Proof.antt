@@ -1,13 +1,13 @@
 -- `numbers::push_all` meets its contract. The invariant: what is left, pushed to the row so far, gives what all of it gives.
 -- Assumes nothing.
 use mathlib.Core.Path.{_≡_, refl, sym, _∙_}
-use Prim.Native.Nat.{suc, _-_, _≤_, _<_}
-use native.Mathlib.Numerals.{add-one}
+use Prim.Native.Nat.{_-_, _≤_}
 use native.Mathlib.Omega.{arith}
 use denote.Ref.{now}
-use lib.ListN.{length, drop, getD}
-use lib.Seq.{drop-cons, drop-length}
-use Rattle.numbers.specs.Row.{pushed, pushedAll}
+use lib.ListN.{length, drop}
+use lib.Seq.{drop-length}
+use Rattle.numbers.specs.Row.{pushedAll}
+use Rattle.numbers.proofs.Pushing.{pushed-none, pushed-next}
 use Rattle.numbers.proofs.push_all.Statement.{statement}
 use Rattle.numbers.proofs.push_all.Tie as tie
 
@@ -36,20 +36,16 @@ loop-less : tie.Need-loop-less Inv-loop μ-loop
 loop-less c = omega arith
 
 loop-again : tie.Need-loop-again Inv-loop μ-loop
-unfolding pushedAll
 loop-again c =
     let l = c .before .before .before .loop in
-    let values = now (c .before .before .before .before .before .args .values) in
-    let more : l .i < length values = omega arith in
-    let next : pushedAll (l .all) (drop (l .i) values) ≡ pushedAll (pushed (l .all) (getD values (l .i) 0)) (drop (suc (l .i)) values) =
-    rw (drop-cons values (l .i) 0) in
-    (omega arith, rw (c .push .ensures, add-one (l .i)) (sym next ∙ l .inv .1))
+    let next = pushed-next (l .all) (now (c .before .before .before .before .before .args .values)) (l .i) (omega arith) in
+    (omega arith, rw (c .push .ensures) (sym next ∙ l .inv .1))
 
 returns : tie.Need-returns Inv-loop μ-loop
-unfolding pushedAll
 returns c =
-    let past : length (now (c .before .before .before .args .values)) ≡ c .before .loop .i = omega arith in
-    rw (← past, drop-length) at (c .before .loop .inv .1)
+    let l = c .before .loop in
+    let past : length (now (c .before .before .before .args .values)) ≡ l .i = omega arith in
+    sym (pushed-none (l .all)) ∙ rw (← past, drop-length) at (l .inv .1)
 
 pub push-all-spec : {M : Type 1} → statement M
 push-all-spec =
