@@ -42,7 +42,7 @@ abbrev pub ordered : ℕ → List Field → Bool
 ordered top [] = true
 ordered top (f ∷ fs) = leb (lowOf f) (highOf f) && ltb (highOf f) top && ordered (lowOf f) fs
 
--- the fields put together by `|`, each cut to its bits
+-- the fields put together by `|`, each cut to its bits: an inner contract, which is `wordOf` where the fields fit (`joined-word`, proofs/Fields.antt)
 abbrev pub joinedFrom : ℕ → List Field → ℕ
 joinedFrom word [] = word
 joinedFrom word (f ∷ fs) = joinedFrom (bitOr word (placedOf (valueOf f) (highOf f) (lowOf f))) fs

@@ -1,4 +1,4 @@
--- What the injector's parts hand on to each other.
+-- What the injector's parts hand on to each other. These are inner contracts: what an injection does is settled by `injected` (Inject.antt) alone.
 use Prim.Native.Nat.{ℕ, _^_}
 use mathlib.Core.Bool.{cond}
 use lib.Dec.{ltb}

@@ -1,4 +1,5 @@
--- The record at a word's bits, by the layout of its class.
+-- The record at a word's bits, by the layout of its class: the layout lines of Fields.antt read the other way. That it takes the word of a record
+-- back to that record is shown (`found-back`, proofs/RoundTrip.antt), so that nothing here has to be believed beside those lines.
 use Prim.Native.Nat.{ℕ}
 use mathlib.Core.Bool.{cond}
 use lib.Dec.{eqb}
