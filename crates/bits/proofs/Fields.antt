@@ -1,7 +1,7 @@
 -- Laws of layouts, over every list of fields: what stands at a field's bits of the word is its value, and `|` adds the fields up.
 -- Assumes nothing.
 use mathlib.Core.Path.{_≡_, _∙_, sym, ap, subst}
-use mathlib.Core.Bool.{Bool, true, false, _&&_, and-true, and-assoc}
+use mathlib.Core.Bool.{Bool, true, false, _&&_}
 use mathlib.Core.List.{List, [], _∷_}
 use Prim.Native.Nat.{ℕ, _+_, _-_, _*_, _%_, _^_, _≤_, _<_}
 use native.Mathlib.Nat.{add-assoc, add-mul, add-zero, zero-add, zero-mul, lt-of-lt-of-le, mod-eq-of-lt, sub-add-cancel}
@@ -11,16 +11,10 @@ use lib.Bits.{bitOr, or-shifted}
 use lib.Dec.{T, leb, ltb, leb→le, ltb→lt, lit<}
 use lib.Pow.{pow-pos, pow-mono, pow-add, shl-lt, high, low}
 use Rattle.bits.specs.Field.{widthOf, fieldOf, digit, placedOf}
-use Rattle.bits.specs.Layout.{Field, at, flagAt, highOf, lowOf, valueOf, wordOf, fittingAfter, fitting, ordered, joinedFrom}
+use Rattle.bits.specs.Layout.{Field, at, flagAt, highOf, lowOf, valueOf, wordOf, fitting, ordered}
+use Rattle.bits.specs.Inner.{joinedFrom}
+use Rattle.bits.proofs.Booleans.{both-left, both-right}
 use Rattle.bits.proofs.Powers.{shift-by-way}
-
-pub both-left : (a b : Bool) → T (a && b) → T a
-both-left true b t = tt
-both-left false b t = t
-
-pub both-right : (a b : Bool) → T (a && b) → T b
-both-right true b t = t
-both-right false b t = absurd t
 
 -- what `ordered` and `fitting` say of the first field
 module _ (top : ℕ) (f : Field) (fs : List Field) (o : T (ordered top (f ∷ fs))) where
@@ -46,25 +40,15 @@ pub digit-below : (b : Bool) → digit b < 2
 digit-below true = lit< tt
 digit-below false = lit< tt
 
--- what came before counts as one test more
-fitting-after : (before : Bool) (fs : List Field) → fittingAfter before fs ≡ (before && fitting fs)
-fitting-after before [] = sym (and-true before)
-fitting-after before (at h l v ∷ fs) =
-    fitting-after (before && ltb v (2 ^ widthOf h l)) fs ∙ and-assoc before (ltb v (2 ^ widthOf h l)) (fitting fs)
-    ∙ ap (λ (b : Bool). before && b) (sym (fitting-after (ltb v (2 ^ widthOf h l)) fs))
-fitting-after before (flagAt n b ∷ fs) = fitting-after before fs
-
 value-fits : (f : Field) (fs : List Field) → T (fitting (f ∷ fs)) → valueOf f < 2 ^ widthOf (highOf f) (lowOf f)
 value-fits (at h l v) fs t =
-    ltb→lt v (2 ^ widthOf h l)
-    (both-left (ltb v (2 ^ widthOf h l)) (fitting fs) (subst T (fitting-after (ltb v (2 ^ widthOf h l)) fs) t))
+    ltb→lt v (2 ^ widthOf h l) (both-left (ltb v (2 ^ widthOf h l)) (fitting fs) t)
 value-fits (flagAt n b) fs t =
     let one : widthOf n n ≡ 1 = omega arith in
     subst (λ (k : ℕ). digit b < 2 ^ k) (sym one) (digit-below b)
 
 rest-fits : (f : Field) (fs : List Field) → T (fitting (f ∷ fs)) → T (fitting fs)
-rest-fits (at h l v) fs t =
-    both-right (ltb v (2 ^ widthOf h l)) (fitting fs) (subst T (fitting-after (ltb v (2 ^ widthOf h l)) fs) t)
+rest-fits (at h l v) fs t = both-right (ltb v (2 ^ widthOf h l)) (fitting fs) t
 rest-fits (flagAt n b) fs t = t
 
 -- a value at its bits stays below the top
