@@ -14,14 +14,9 @@ use lib.Dec.{eqb, lit<}
 use lib.Pow.{pow-pos, pow-mono, pow-add, high, field}
 use Rattle.bits.specs.Field.{widthOf, fieldOf, bitOf, digit}
 use Rattle.bits.proofs.Powers.{shift-by-way}
-use Rattle.bits.proofs.Fields.{digit-below}
+use Rattle.bits.proofs.Fields.{digit-below, digit-back}
 use Rattle.edition.specs.Feature.{editions}
 use Rattle.edition.specs.Mask.{maskBelow, maskOf, countBelow}
-
--- a bit says its yes or no again
-pub digit-back : (b : Bool) → eqb (digit b) 1 ≡ b
-digit-back true = refl
-digit-back false = refl
 
 digit-and : (a b : Bool) → bitAnd (digit a) (digit b) ≡ digit (a && b)
 digit-and true true = refl

@@ -1,4 +1,5 @@
 pub mod Calls
+pub mod Verdicts
 pub mod Forms
 pub mod Demand2
 pub mod Demand3
