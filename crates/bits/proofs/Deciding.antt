@@ -7,7 +7,7 @@ use mathlib.Core.Logic.{_⊎_, inl, inr, _↔_}
 use Prim.Native.Nat.{ℕ}
 use borrow.Author.Tests.{eqb-true, eq-eqb}
 use lib.Dec.{T, eqb}
-use Rattle.bits.specs.Decide.{Test, needs, decide, relabel, AllPass, Either, FirstFails, unused, distinct}
+use Rattle.bits.specs.Decide.{Test, needs, decide, relabel, AllPass, Either, FirstFails, unused, distinct, FailsWith}
 use Rattle.bits.proofs.Booleans.{both-left, both-right}
 
 -- an answer of the answer is the answer of the tests with that answer
@@ -70,6 +70,22 @@ fails-decided (needs false number ∷ tests) k f = by (eqb k number) refl f
 -- EACH REFUSAL EXACTLY: a number comes exactly when its test is the first that fails, and 0 exactly when none fails
 pub decided-exactly : (tests : List (Test ℕ)) → T (distinct tests) → (k : ℕ) → (decide tests 0 ≡ k) ↔ FirstFails k tests
 decided-exactly tests d k = (decided-fails tests d k, fails-decided tests k)
+
+-- the same where two tests may share a number
+decided-with : (tests : List (Test ℕ)) (k : ℕ) → decide tests 0 ≡ k → FailsWith k tests
+decided-with [] k e = sym e
+decided-with (needs true number ∷ tests) k e = inr (refl, decided-with tests k e)
+decided-with (needs false number ∷ tests) k e = inl (refl, sym e)
+
+with-decided : (tests : List (Test ℕ)) (k : ℕ) → FailsWith k tests → decide tests 0 ≡ k
+with-decided [] k f = sym f
+with-decided (needs true number ∷ tests) k (inl f) = absurd (true≢false (f .0))
+with-decided (needs true number ∷ tests) k (inr f) = with-decided tests k (f .1)
+with-decided (needs false number ∷ tests) k (inl f) = sym (f .1)
+with-decided (needs false number ∷ tests) k (inr f) = absurd (true≢false (sym (f .0)))
+
+pub decided-with-exactly : (tests : List (Test ℕ)) (k : ℕ) → (decide tests 0 ≡ k) ↔ FailsWith k tests
+decided-with-exactly tests k = (decided-with tests k, with-decided tests k)
 
 -- every answer is the last one or a test's
 abbrev pub OneOf : {A : Type 0} → (A → Type 0) → List (Test A) → Type 0

@@ -16,17 +16,22 @@ use Rattle.form.specs.Answer.{Answer, given, refused, numberIn, maskIn, 
 use Rattle.form.specs.Call.{others, callTests, callOf, sixOnly}
 use Rattle.form.proofs.Calls.{NotSix, Own, Ending, unknown-edition, own-test, other-editions, passed, ending}
 
-numbered : {A : Type 0} (tests : List (Test Refusal)) (a : A)
-    → numberIn (decide (relabel refused tests) (given a)) ≡ decide (relabel refusalNumber tests) 0
-numbered [] a = refl
-numbered (needs true f ∷ tests) a = numbered tests a
-numbered (needs false f ∷ tests) a = refl
+-- what is said of an answer is what is said of the first refusal, or of what is given
+through : {A X : Type 0} (said : Answer A → X) (tests : List (Test Refusal)) (a : A)
+    → said (decide (relabel refused tests) (given a)) ≡ decide (relabel (λ f. said (refused f)) tests) (said (given a))
+through said [] a = refl
+through said (needs true f ∷ tests) a = through said tests a
+through said (needs false f ∷ tests) a = refl
+
+pub call-through : {A X : Type 0} (said : Answer A → X) (n : ℕ) (test : ℕ → Bool) (own : List (Test Refusal)) (e : ℕ) (a : A)
+    → said (callOf n test own e a) ≡ decide (relabel (λ f. said (refused f)) (callTests n test own e)) (said (given a))
+unfolding callOf
+call-through said n test own e a = through said (callTests n test own e) a
 
 -- the number of a call's answer is that of the first of its tests that fails
 pub call-number : {A : Type 0} (n : ℕ) (test : ℕ → Bool) (own : List (Test Refusal)) (e : ℕ) (a : A)
     → numberIn (callOf n test own e a) ≡ decide (relabel refusalNumber (callTests n test own e)) 0
-unfolding callOf
-call-number n test own e a = numbered (callTests n test own e) a
+call-number = call-through numberIn
 
 -- every refusal but 6 carries mask 0 and number 0
 pub only-six-names : (f : Refusal) → NotSix f → (refusalMask f ≡ 0) × (refusalCount f ≡ 0)
@@ -59,3 +64,22 @@ module _ {A : Type 0} (n : ℕ) (test : ℕ → Bool) (own : List (Test Refusal)
           )
       by (other-editions o q) = at (refused (others n test)) q (refl, mask-ones n test)
       by (passed is had q) = at (given a) q (refl, refl)
+
+-- an answer of code says the paper's number, mask and count
+abbrev pub Says : {A X : Type 0} → (Answer A → X) → (X → ℕ) → (X → ℕ) → (X → ℕ) → Type 0
+Says {A} shown number mask count =
+    (r : Answer A) → (number (shown r) ≡ numberIn r) × (mask (shown r) ≡ maskIn r) × (count (shown r) ≡ countIn r)
+
+-- THE NUMBERS of a call: that of its first test that fails; and with 6 alone the mask of the editions that have it, and how many they are
+pub call-says : {A X : Type 0} (shown : Answer A → X) (number mask count : X → ℕ) → Says shown number mask count
+    → (n : ℕ) (test : ℕ → Bool) (own : List (Test Refusal)) (e : ℕ) (a : A) → Own n test own
+    → (number (shown (callOf n test own e a)) ≡ decide (relabel refusalNumber (callTests n test own e)) 0)
+    × (mask (shown (callOf n test own e a)) ≡ sixOnly (number (shown (callOf n test own e a))) (maskBelow n test))
+    × (count (shown (callOf n test own e a)) ≡ sixOnly (number (shown (callOf n test own e a))) (countBelow n test))
+call-says shown number mask count says n test own e a ok =
+    let s = says (callOf n test own e a) in
+    let carries = call-carries n test own e a ok in (
+      s .0 ∙ call-number n test own e a,
+      s .1 ∙ carries .0 ∙ ap (λ (k : ℕ). sixOnly k (maskBelow n test)) (sym (s .0)),
+      s .2 ∙ carries .1 ∙ ap (λ (k : ℕ). sixOnly k (countBelow n test)) (sym (s .0)),
+    )

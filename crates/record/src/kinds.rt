@@ -133,9 +133,5 @@ pub struct Head {
 pub enum Addresses {
     None,
     Virtual,
-    Abort {
-        fnv: bool,
-        s1ptw: bool,
-        code: u32,
-    },
+    Abort { fnv: bool, s1ptw: bool, code: u32 },
 }

@@ -1,3 +1,4 @@
 pub mod Masks
+pub mod Lengths
 pub mod Having
 pub mod NotEmpty

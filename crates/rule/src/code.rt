@@ -5,11 +5,11 @@ ghost use Rattle.rule.specs.Code.{instructionCode, dataCode, setRule, is
 ghost use Rattle.rule.specs.Has.{editionsOf};
 use super::il::il_rule;
 use super::rules;
-use record::Record;
 use edition::ALL;
 use edition::HAFDBS;
 use edition::LPA2;
 use edition::RAS;
+use record::Record;
 
 const NO_RAS: u32 = ALL - RAS;
 

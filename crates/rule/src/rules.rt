@@ -79,7 +79,8 @@ fn call(r: Call) -> bool
 fn smc(r: Smc) -> bool
     ensures { λ yes. ⌜ yes ≡ (fitting (smcFields r) && (conditionRule (r .cv) (r .cond) && passedRule (r .ccknownpass) (r .cv) (r .cond))) ⌝ }
 {
-    (r.cond < 16) & (iss::condition_rule(r.cv, r.cond) & iss::passed_rule(r.ccknownpass, r.cv, r.cond))
+    (r.cond < 16)
+        & (iss::condition_rule(r.cv, r.cond) & iss::passed_rule(r.ccknownpass, r.cv, r.cond))
 }
 
 fn instruction_abort(r: InstructionAbort) -> bool

@@ -35,7 +35,11 @@ fn word_editions(r: Record, word: u64) -> u32
 fn word_il(word: u64) -> bool
     ensures { λ yes. ⌜ yes ≡ wordIl word ⌝ }
 {
-    rule::il_rule(bits::field32(word, 31, 26), bits::bit(word, 24), bits::bit(word, 25))
+    rule::il_rule(
+        bits::field32(word, 31, 26),
+        bits::bit(word, 24),
+        bits::bit(word, 25),
+    )
 }
 
 // Reads a syndrome word in an edition.

@@ -1,36 +1,42 @@
--- `syndrome::carry` meets its contract.
+-- `syndrome::carry` meets its contract: what the writer put out, the reader gives back as demand 3 says.
 -- Assumes nothing.
 use borrow.Author.Needs.{needs}
+use mathlib.Core.Path.{_∙_, sym, ap}
+use Rattle.syndrome.specs.Carry.{carriedFrom, carriedOf}
+use Rattle.syndrome.specs.declared.answer.Carried.{Carried}
+use Rattle.syndrome.proofs.Demand3.{read-back}
+use Rattle.syndrome.proofs.Carries.{carries}
 use Rattle.syndrome.proofs.carry.Statement.{statement}
 use Rattle.syndrome.proofs.carry.Tie as tie
-use Rattle.syndrome.proofs.carry.Reads as reads
-use Rattle.syndrome.proofs.carry.Lts as lts
-use Rattle.syndrome.proofs.read.Reads as read-reads
-use Rattle.syndrome.proofs.write.Reads as write-reads
 
--- src/lib.rt:100:11
 write-requires : tie.Need-write-requires
 write-requires c κs = search needs
 
--- src/lib.rt:101:23
 enum-known-esr : tie.Need-enum-known-esr
 enum-known-esr c = search needs
 
--- src/lib.rt:101:45
 read-requires : tie.Need-read-requires
 read-requires c κs = search needs
 
--- src/lib.rt:102:26
 enum-known-refusal : tie.Need-enum-known-refusal
 enum-known-refusal c = search needs
 
--- src/lib.rt:97:1
 returns : tie.Need-returns
-returns c = ?
+unfolding carriedOf
+returns c =
+    let a = c .before .before .before .before .before .args in
+    let told = c .before .before .esr .given in
+    let put = sym (c .before .before .before .before .write .ensures .answer) ∙ told .1 in
+    carries (a .writer) (a .reader) (a .r)
+    (ap Carried.Read (c .read .ensures .answer ∙ read-back (a .writer) (a .reader) (told .0 .0) (a .r) put)
+    ∙ sym (ap (carriedFrom (a .reader) (a .r)) put))
 
--- src/lib.rt:97:1
 returns-2 : tie.Need-returns-2
-returns-2 c = ?
+unfolding carriedOf
+returns-2 c =
+    let a = c .before .before .before .before .args in
+    carries (a .writer) (a .reader) (a .r)
+    (sym (ap (carriedFrom (a .reader) (a .r)) (sym (c .before .before .before .write .ensures .answer) ∙ c .before .refusal .given .1)))
 
 pub carry-spec : {M : Type 1} → statement M
 carry-spec =

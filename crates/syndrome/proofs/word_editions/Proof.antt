@@ -1,28 +1,31 @@
--- `syndrome::word_editions` meets its contract.
+-- `syndrome::word_editions` meets its contract: where the word comes back from the record, the record's editions; `makes-mask` says that they are the word's.
 -- Assumes nothing.
 use borrow.Author.Needs.{needs}
+use mathlib.Core.Path.{_∙_, sym, ap}
+use mathlib.Core.Bool.{Bool, cond}
+use borrow.Author.Tests.{eq-eqb, ne-eqb}
+use Rattle.rule.specs.Has.{editionsOf}
+use Rattle.syndrome.proofs.Steps.{makes-mask}
 use Rattle.syndrome.proofs.word_editions.Statement.{statement}
 use Rattle.syndrome.proofs.word_editions.Tie as tie
-use Rattle.syndrome.proofs.word_editions.Reads as reads
-use Rattle.syndrome.proofs.word_editions.Lts as lts
-use Rattle.record.proofs.joined.Reads as joined-reads
-use Rattle.rule.proofs.editions.Reads as editions-reads
 
--- src/lib.rt:27:8
 joined-requires : tie.Need-joined-requires
 joined-requires c κs = search needs
 
--- src/lib.rt:28:9
 editions-requires : tie.Need-editions-requires
 editions-requires c κs = search needs
 
--- src/lib.rt:24:1
 returns : tie.Need-returns
-returns c = ?
+returns c =
+    let a = c .before .before .before .args in
+    c .editions .ensures ∙ ap (λ (b : Bool). cond b (editionsOf (a .r)) 0) (sym (eq-eqb _ _ (sym (c .before .before .joined .ensures) ∙ c .before .if1 .taken)))
+    ∙ makes-mask (a .r) (a .word)
 
--- src/lib.rt:24:1
 returns-2 : tie.Need-returns-2
-returns-2 c = ?
+returns-2 c =
+    let a = c .before .before .args in
+    ap (λ (b : Bool). cond b (editionsOf (a .r)) 0) (sym (ne-eqb _ _ (λ e. c .if1 .left (c .before .joined .ensures ∙ e))))
+    ∙ makes-mask (a .r) (a .word)
 
 pub word-editions-spec : {M : Type 1} → statement M
 word-editions-spec = tie.close (tie.spec joined-requires editions-requires returns returns-2)
