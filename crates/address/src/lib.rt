@@ -48,7 +48,11 @@ pub fn far_counts(a: Addresses) -> bool
     match a {
         Addresses::None => false,
         Addresses::Virtual => true,
-        Addresses::Abort { fnv, s1ptw: _, code } => virtual_known(fnv, code),
+        Addresses::Abort {
+            fnv,
+            s1ptw: _,
+            code,
+        } => virtual_known(fnv, code),
     }
 }
 
@@ -59,7 +63,11 @@ pub fn hpfar_counts(a: Addresses) -> bool
     match a {
         Addresses::None => false,
         Addresses::Virtual => false,
-        Addresses::Abort { fnv: _, s1ptw, code } => intermediate_known(s1ptw, code),
+        Addresses::Abort {
+            fnv: _,
+            s1ptw,
+            code,
+        } => intermediate_known(s1ptw, code),
     }
 }
 
@@ -124,6 +132,10 @@ pub fn intermediate_address(a: Addresses, far: Far, hpfar: Hpfar) -> Intermediat
     match a {
         Addresses::None => IntermediateAddress::None,
         Addresses::Virtual => IntermediateAddress::None,
-        Addresses::Abort { fnv: _, s1ptw, code } => abort_intermediate(s1ptw, code, far, hpfar),
+        Addresses::Abort {
+            fnv: _,
+            s1ptw,
+            code,
+        } => abort_intermediate(s1ptw, code, far, hpfar),
     }
 }

@@ -93,7 +93,11 @@ fn trap_of(r: Record, far: Far, hpfar: Hpfar) -> Trap
             syndrome: r,
             address: far.0,
         }),
-        Addresses::Abort { fnv: _, s1ptw: _, code: _ } => {
+        Addresses::Abort {
+            fnv: _,
+            s1ptw: _,
+            code: _,
+        } => {
             let address = address::virtual_address(known, far);
             let intermediate = address::intermediate_address(known, far, hpfar);
             Trap::Abort(Abort {

@@ -1,47 +1,66 @@
--- `trap::read_both` meets its contract.
+-- `trap::read_both` meets its contract: where both editions show the trap, it is the same.
 -- Assumes nothing.
 use borrow.Author.Needs.{needs}
+use mathlib.Core.Path.{_≡_, _∙_, sym, ap, ap₂}
+use Prim.Native.Nat.{ℕ}
+use Rattle.record.specs.declared.kinds.Esr.{Esr}
+use Rattle.address.specs.declared.Far.{Far}
+use Rattle.address.specs.declared.Hpfar.{Hpfar}
+use Rattle.trap.specs.Answer.{answerOf}
+use Rattle.trap.specs.Both.{bothFrom, bothOf}
+use Rattle.trap.specs.declared.Trap.{Trap}
+use Rattle.trap.specs.declared.Answer.{Answer}
+use Rattle.trap.specs.declared.Both.{Both}
+use Rattle.trap.proofs.Promises.{shows-both}
+use Rattle.trap.proofs.Shown.{same-trap}
 use Rattle.trap.proofs.read_both.Statement.{statement}
 use Rattle.trap.proofs.read_both.Tie as tie
-use Rattle.trap.proofs.read_both.Reads as reads
-use Rattle.trap.proofs.read_both.Lts as lts
-use Rattle.trap.proofs.read.Reads as read-reads
 
--- src/lib.rt:142:11
+both-shown : (first second : ℕ) (esr : Esr) (far : Far) (hpfar : Hpfar) (t s : Trap) → answerOf first esr far hpfar ≡ Answer.Shown t
+    → answerOf second esr far hpfar ≡ Answer.Shown s → Both.Shown t s ≡ bothOf first second esr far hpfar
+unfolding bothOf
+both-shown first second esr far hpfar t s one other =
+    ap (Both.Shown t) (sym (same-trap first second esr far hpfar t s one other)) ∙ sym (ap₂ bothFrom one other)
+
 read-requires : tie.Need-read-requires
 read-requires c κs = search needs
 
--- src/lib.rt:143:23
 enum-known-trap : tie.Need-enum-known-trap
 enum-known-trap c = search needs
 
--- src/lib.rt:143:38
 read-requires-2 : tie.Need-read-requires-2
 read-requires-2 c κs = search needs
 
--- src/lib.rt:144:27
 enum-known-other : tie.Need-enum-known-other
 enum-known-other c = search needs
 
--- src/lib.rt:145:29
 enum-known-refusal : tie.Need-enum-known-refusal
 enum-known-refusal c = search needs
 
--- src/lib.rt:147:25
 enum-known-refusal-2 : tie.Need-enum-known-refusal-2
 enum-known-refusal-2 c = search needs
 
--- src/lib.rt:139:1
 returns : tie.Need-returns
-returns c = ?
+returns c =
+    let a = c .before .before .before .before .before .before .before .before .args in
+    let first = sym (c .before .before .before .before .before .before .before .read .ensures .answer) ∙ c .before .before .before .before .before .trap .given .1 in
+    let second = sym (c .before .before .before .read2 .ensures .answer) ∙ c .before .other .given .1 in
+    shows-both (a .first) (a .second) (a .esr) (a .far) (a .hpfar) (both-shown (a .first) (a .second) (a .esr) (a .far) (a .hpfar) _ _ first second)
 
--- src/lib.rt:139:1
 returns-2 : tie.Need-returns-2
-returns-2 c = ?
+unfolding bothOf
+returns-2 c =
+    let a = c .before .before .before .before .before .before .before .before .args in
+    let first = sym (c .before .before .before .before .before .before .before .read .ensures .answer) ∙ c .before .before .before .before .before .trap .given .1 in
+    let second = sym (c .before .before .before .read2 .ensures .answer) ∙ c .before .refusal .given .1 in
+    shows-both (a .first) (a .second) (a .esr) (a .far) (a .hpfar) (sym (ap₂ bothFrom first second))
 
--- src/lib.rt:139:1
 returns-3 : tie.Need-returns-3
-returns-3 c = ?
+unfolding bothOf
+returns-3 c =
+    let a = c .before .before .before .before .args in
+    shows-both (a .first) (a .second) (a .esr) (a .far) (a .hpfar)
+    (sym (ap (λ (x : Answer). bothFrom x (answerOf (a .second) (a .esr) (a .far) (a .hpfar))) (sym (c .before .before .before .read .ensures .answer) ∙ c .before .refusal2 .given .1)))
 
 pub read-both-spec : {M : Type 1} → statement M
 read-both-spec =
