@@ -73,10 +73,11 @@ pub(crate) fn enter(state: Guest, row: Row, faults: FaultRegisters) -> Guest
     let regs = state.regs;
     let new_regs = with_register(regs, row.link, link);
     after.regs = new_regs;
+    let status = entry_status(mode, row.a, state.status, state.sctlr);
     let old = state.saved;
     let saved = saved_in(mode, old, state.status);
     after.saved = saved;
-    after.status = entry_status(mode, row.a, state.status, state.sctlr);
+    after.status = status;
     after.pc = wrapping_add_u32(vector_base(state.sctlr, state.vbar), row.vector);
     after.faults = faults;
     after

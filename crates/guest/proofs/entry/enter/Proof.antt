@@ -40,11 +40,11 @@ link-of-requires c κs = search needs
 with-register-requires : tie.Need-with-register-requires
 with-register-requires c κs = search needs
 
-saved-in-requires : tie.Need-saved-in-requires
-saved-in-requires c κs = search needs
-
 entry-status-requires : tie.Need-entry-status-requires
 entry-status-requires c κs = search needs
+
+saved-in-requires : tie.Need-saved-in-requires
+saved-in-requires c κs = search needs
 
 vector-base-requires : tie.Need-vector-base-requires
 vector-base-requires c κs = search needs
@@ -61,8 +61,8 @@ returns c =
     (c .before .before .before .before .before .before .before .before .correction-in .ensures)
     (c .before .before .before .before .before .before .before .link-of .ensures))
     (c .before .before .before .before .before .with-register .ensures)
-    (c .before .before .before .saved-in .ensures)
-    (c .before .before .entry-status .ensures)
+    (c .before .before .saved-in .ensures)
+    (c .before .before .before .before .entry-status .ensures)
     (c .before .vector-base .ensures)
     (c .wrapping-add-u32 .ensures)
 
@@ -74,8 +74,8 @@ enter-spec =
     correction-in-requires
     link-of-requires
     with-register-requires
-    saved-in-requires
     entry-status-requires
+    saved-in-requires
     vector-base-requires
     wrapping-add-u32-requires
     returns)
