@@ -3,23 +3,35 @@ use mathlib.Core.Path.{_≡_, refl, sym, ap, _∙_}
 use mathlib.Core.Bool.{true, cond}
 use mathlib.Core.Logic.{_↔_}
 use Prim.Native.Nat.{ℕ}
-use lib.Dec.{eqb}
+use lib.Dec.{T, eqb}
 use Rattle.bits.specs.Decide.{decide, FirstFails}
-use Rattle.bits.proofs.Deciding.{decide-relabel, all-pass, decided-exactly}
+use Rattle.bits.proofs.Deciding.{decide-relabel, all-pass, decided-exactly, answer-is}
 use Rattle.status.specs.Sound.{sound}
 use Rattle.guest.specs.declared.state.Guest.{Guest}
 use Rattle.guest.specs.declared.answer.Answer.{Answer}
 use Rattle.guest.specs.declared.answer.Answer.the-variants.{Accepted, UnsoundStatus, UnalignedVbar, UnwritableFault, WideAddress}
 use Rattle.guest.specs.declared.injection.Injection.{Injection}
-use Rattle.guest.specs.Answer.{answerNumber}
+use Rattle.guest.specs.declared.injector.Injected.{Injected}
+use Rattle.guest.specs.Answer.{answerNumber, listed, injectionList}
 use Rattle.guest.specs.Tests.{aligned, writable, addressFits, injectionTests, injectionNumbers}
 use Rattle.guest.specs.Inject.{guestAfter, injectionAnswer, resulting, injected}
+use Rattle.guest.specs.Promise.{Promise}
 
 -- ---- the first test that fails gives the number
 
 pub number-decided : (s : Guest) (i : Injection) → answerNumber (injectionAnswer s i) ≡ decide (injectionNumbers s i) 0
 unfolding injectionAnswer
 number-decided s i = decide-relabel answerNumber (injectionTests s i) Accepted
+
+-- what the calls promise of the answer and the state, by their equation alone
+pub promised : (s : Guest) (i : Injection) {r : Injected} → r ≡ injected s i → Promise s i r
+unfolding injected
+promised s i e =
+    record { result = e; number = ap (λ (r : Injected). answerNumber (r .answer)) e ∙ number-decided s i; mask = refl; count = refl }
+
+-- an injection answers 0 or 9 to 12
+pub number-listed : (s : Guest) (i : Injection) → T (listed (decide (injectionNumbers s i) 0) injectionList)
+number-listed s i = answer-is (λ n. T (listed n injectionList)) (injectionNumbers s i) 0 (tt, (tt, (tt, (tt, tt)))) tt
 
 -- EACH REFUSAL EXACTLY: an injection answers a number exactly when its test is the first that fails, and 0 exactly when none fails
 pub decided : (s : Guest) (i : Injection) (k : ℕ) → (answerNumber (injectionAnswer s i) ≡ k) ↔ FirstFails k (injectionNumbers s i)

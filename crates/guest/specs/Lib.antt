@@ -6,4 +6,5 @@ pub mod Injection
 pub mod Entry
 pub mod Tests
 pub mod Inject
+pub mod Promise
 pub mod Inner

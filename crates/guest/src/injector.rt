@@ -1,6 +1,5 @@
 // An injection into a guest's state, by value.
-ghost use mathlib.Core.Path.{_≡_};
-ghost use Rattle.guest.specs.Inject.{injected};
+ghost use Rattle.guest.specs.Promise.{Promise};
 use crate::answer::Answer;
 use crate::entry::aligned;
 use crate::entry::enter;
@@ -18,7 +17,7 @@ pub struct Injected {
 
 // The answer, with the state after it: a refusal's is the state that came.
 pub fn inject(state: Guest, what: Injection) -> Injected
-    ensures { λ r. ⌜ r ≡ injected state what ⌝ }
+    ensures { λ r. ⌜ Promise state what r ⌝ }
 {
     if !sound(state.status) {
         return Injected {

@@ -17,6 +17,7 @@ use Rattle.guest.specs.Entry.{entered}
 use Rattle.guest.specs.Tests.{aligned}
 use Rattle.guest.specs.Inject.{injectionAnswer, injected}
 use Rattle.guest.specs.Inner.{reportOf}
+use Rattle.guest.proofs.Answers.{promised}
 use Rattle.guest.proofs.Reports.{answerBy, registers, result, by-answer, unsound, unaligned, judged}
 use Rattle.guest.proofs.injector.inject.Statement.{statement}
 use Rattle.guest.proofs.injector.inject.Tie as tie
@@ -53,8 +54,9 @@ sound-requires c κs = search needs
 returns : tie.Need-returns
 returns c =
     let start = c .before .before in
-    by-answer (start .args .state) (start .args .what)
-    (unsound (start .args .state) (start .args .what) (sym (c .before .sound .ensures) ∙ not-true _ (c .if1 .taken)))
+    promised (start .args .state) (start .args .what)
+    (by-answer (start .args .state) (start .args .what)
+    (unsound (start .args .state) (start .args .what) (sym (c .before .sound .ensures) ∙ not-true _ (c .if1 .taken))))
 
 aligned-requires : tie.Need-aligned-requires
 aligned-requires c κs = search needs
@@ -62,8 +64,9 @@ aligned-requires c κs = search needs
 returns-2 : tie.Need-returns-2
 returns-2 c =
     let start = c .before .before .before .before in
-    by-answer (start .args .state) (start .args .what)
-    (unaligned (start .args .state) (start .args .what) (passed-sound (c .before .before)) (sym (c .before .aligned .ensures) ∙ not-true _ (c .if2 .taken)))
+    promised (start .args .state) (start .args .what)
+    (by-answer (start .args .state) (start .args .what)
+    (unaligned (start .args .state) (start .args .what) (passed-sound (c .before .before)) (sym (c .before .aligned .ensures) ∙ not-true _ (c .if2 .taken))))
 
 report-of-requires : tie.Need-report-of-requires
 report-of-requires c κs = search needs
@@ -84,18 +87,19 @@ enter-requires : tie.Need-enter-requires
 enter-requires c κs = search needs
 
 returns-3 : tie.Need-returns-3
-returns-3 c = settled (c .before .before) (c .enum-told .given .1)
+returns-3 c = promised _ _ (settled (c .before .before) (c .enum-told .given .1))
 
 returns-4 : tie.Need-returns-4
-returns-4 c = settled (c .before .before) (c .enum-told2 .given .1)
+returns-4 c = promised _ _ (settled (c .before .before) (c .enum-told2 .given .1))
 
 returns-5 : tie.Need-returns-5
 returns-5 c =
     let past = c .before .before .before .before .before in
     let e = c .before .before .before .faults .given .1 in
     let start = past .before .before .before .before .before .before in
-    taken (start .args .state) (start .args .what) (c .before .injection-row .ensures) (sym (past .report-of .ensures) ∙ e) (c .enter .ensures)
-    ∙ settled past e
+    promised (start .args .state) (start .args .what)
+    (taken (start .args .state) (start .args .what) (c .before .injection-row .ensures) (sym (past .report-of .ensures) ∙ e) (c .enter .ensures)
+    ∙ settled past e)
 
 pub inject-spec : {M : Type 1} → statement M
 inject-spec =
