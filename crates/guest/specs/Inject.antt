@@ -1,5 +1,7 @@
 -- An injection (01, 'Guest state and the five injections'): its answer, and the whole state after it.
 use Prim.Native.Nat.{ℕ}
+use mathlib.Core.Bool.{cond}
+use lib.Dec.{eqb}
 use Rattle.bits.specs.Decide.{decide}
 use Rattle.fault.specs.declared.Encoding.{Encoding}
 use Rattle.fault.specs.declared.Encoding.the-variants.{Code, Unwritable}
@@ -7,10 +9,11 @@ use Rattle.fault.specs.Fault.{ifsrWord, dfsrWord}
 use Rattle.guest.specs.declared.state.FaultRegisters.{FaultRegisters}
 use Rattle.guest.specs.declared.state.Guest.{Guest}
 use Rattle.guest.specs.declared.answer.Answer.{Answer}
-use Rattle.guest.specs.declared.answer.Answer.the-variants.{Accepted, UnsoundStatus, UnalignedVbar, UnwritableFault, WideAddress}
+use Rattle.guest.specs.declared.answer.Answer.the-variants.{Accepted}
 use Rattle.guest.specs.declared.injection.Injection.{Injection}
 use Rattle.guest.specs.declared.injection.Injection.the-variants.{UndefinedAt, UndefinedAfter, SupervisorCall, PrefetchAbort, DataAbort}
 use Rattle.guest.specs.declared.injector.Injected.{Injected}
+use Rattle.guest.specs.Answer.{answerNumber}
 use Rattle.guest.specs.Injection.{injectionRow}
 use Rattle.guest.specs.Entry.{entered}
 use Rattle.guest.specs.Tests.{injectionTests}
@@ -43,13 +46,9 @@ guestAfter s i = entered s (injectionRow i) (faultsAfter i (s .faults) (s .ttbcr
 unfoldable pub injectionAnswer : Guest → Injection → Answer
 injectionAnswer s i = decide (injectionTests s i) Accepted
 
--- a refusal gives back the state as it came
+-- an answer 0 comes with the new state, and a refusal gives back the state as it came
 abbrev pub resulting : Answer → Guest → Guest → Guest
-resulting Accepted s after = after
-resulting UnsoundStatus s after = s
-resulting UnalignedVbar s after = s
-resulting UnwritableFault s after = s
-resulting WideAddress s after = s
+resulting a s after = cond (eqb (answerNumber a) 0) after s
 
 unfoldable pub injected : Guest → Injection → Injected
 injected s i = record { answer = injectionAnswer s i; state = resulting (injectionAnswer s i) s (guestAfter s i) }
