@@ -3,7 +3,7 @@
 use mathlib.Core.Path.{_≡_, refl, _∙_, sym, ap, ap₂, subst}
 use mathlib.Core.Bool.{Bool, true, false, cond}
 use mathlib.Core.Logic.{⊎-elim}
-use Prim.Native.Nat.{ℕ, zero, suc, _+_, _<_}
+use Prim.Native.Nat.{ℕ, zero, suc, _+_, _%_, _^_, _<_}
 use native.Mathlib.Nat.{eq-or-lt-of-le, le-of-suc-le-suc, not-suc-le-zero}
 use lib.Count.{ones}
 use lib.Dec.{lit<}
@@ -18,15 +18,18 @@ use Rattle.syndrome.specs.Split.{foundAt}
 use Rattle.syndrome.specs.Answer.{readRecord, readOf}
 use Rattle.syndrome.specs.declared.record.Record.{Record}
 use Rattle.syndrome.specs.declared.answer.Read.{Read}
-use Rattle.guest.specs.Status.{isMode, sound, entryStatus}
+use Rattle.status.specs.Mode.{isMode}
+use Rattle.status.specs.Sound.{sound}
+use Rattle.status.specs.Entry.{t32, entryStatus}
+use Rattle.status.specs.declared.Mode.the-variants.{Abort, Undefined}
 use Rattle.guest.specs.Tests.{aligned}
-use Rattle.guest.specs.Mode.{linkRegister}
-use Rattle.guest.specs.Injection.{modeOf}
+use Rattle.guest.specs.Injection.{injectionRow}
 use Rattle.bits.specs.Field.{bitOf}
-use Rattle.guest.specs.Entry.{vectorBase}
-use Rattle.guest.specs.Link.{correctionOf, linkOf}
-use Rattle.guest.specs.declared.mode.Mode.the-variants.{Abort, Undefined}
-use Rattle.guest.specs.Inject.{stateAfter, injected}
+use Rattle.guest.specs.declared.link.Correction.{Correction}
+use Rattle.guest.specs.declared.link.Correction.the-variants.{Plus}
+use Rattle.guest.specs.Link.{signed, linkOf}
+use Rattle.guest.specs.Entry.{vectorBase, correctionIn, entered}
+use Rattle.guest.specs.Inject.{guestAfter, injected}
 use Rattle.guest.specs.declared.injection.Injection.{Injection}
 use Rattle.guest.specs.declared.injection.Injection.the-variants.{UndefinedAt, DataAbort}
 use Rattle.guest.specs.declared.injection.Access.{Access}
@@ -56,8 +59,8 @@ alike : (w : ℕ) (answer : Read) → readOf 0 w ≡ answer → readOf 1 w ≡ a
 alike w answer = in-each (λ e. readOf e w ≡ answer)
 
 -- an injection that passes leaves what the definition of the new state computes
-leaves : (s : Guest) (i : Injection) {status link pc : ℕ} → Passes s i → stateAfter s i .status ≡ status
-    → getD (stateAfter s i .regs) (linkRegister (modeOf i)) 0 ≡ link → stateAfter s i .pc ≡ pc → Leaves s i status link pc
+leaves : (s : Guest) (i : Injection) {status link pc : ℕ} → Passes s i → guestAfter s i .status ≡ status
+    → getD (guestAfter s i .regs) (injectionRow i .link) 0 ≡ link → guestAfter s i .pc ≡ pc → Leaves s i status link pc
 unfolding injected
 leaves s i p new-status new-link new-pc =
     let taken = accepted-exactly s i .1 p in
@@ -65,32 +68,39 @@ leaves s i p new-status new-link new-pc =
     record {
       answer = taken;
       new-status = ap (λ (g : Guest). g .status) after ∙ new-status;
-      new-link = ap (λ (g : Guest). getD (g .regs) (linkRegister (modeOf i)) 0) after ∙ new-link;
+      new-link = ap (λ (g : Guest). getD (g .regs) (injectionRow i .link) 0) after ∙ new-link;
       new-pc = ap (λ (g : Guest). g .pc) after ∙ new-pc;
     }
 
 -- an undefined instruction at PC, by the four registers that its case gives
 undefined : (s : Guest) (status pc vbar sctlr : ℕ) → Whole s → sound status ≡ true → aligned vbar ≡ true
     → s .status ≡ status → s .pc ≡ pc → s .vbar ≡ vbar → s .sctlr ≡ sctlr
-    → Leaves s UndefinedAt (entryStatus Undefined status sctlr) (linkOf pc (correctionOf UndefinedAt (bitOf status 5))) (vectorBase sctlr vbar + 0x04)
-unfolding stateAfter
+    → Leaves s UndefinedAt (entryStatus Undefined false status sctlr) (linkOf pc (signed (correctionIn (injectionRow UndefinedAt) (t32 status))))
+    ((vectorBase sctlr vbar + 0x04) % 2 ^ 32)
+unfolding entered
 undefined s status pc vbar sctlr whole is-sound is-aligned st p v sc =
     leaves s UndefinedAt
     (record { status = ap sound st ∙ is-sound; vbar = ap aligned v ∙ is-aligned; fault = refl; address = refl })
-    (ap₂ (entryStatus Undefined) st sc)
+    (ap₂ (entryStatus Undefined false) st sc)
     (link-held s UndefinedAt (subst (λ (n : ℕ). 22 < n) (sym whole) (lit< tt))
-    ∙ ap₂ (λ (x y : ℕ). linkOf x (correctionOf UndefinedAt (bitOf y 5))) p st)
-    (ap₂ (λ (x y : ℕ). vectorBase x y + 0x04) sc v)
+    ∙ ap₂ (λ (x y : ℕ). linkOf x (signed (correctionIn (injectionRow UndefinedAt) (t32 y)))) p st)
+    (ap₂ (λ (x y : ℕ). (vectorBase x y + 0x04) % 2 ^ 32) sc v)
+
+-- the correction of a data abort is one in both instruction sets
+abort-correction : (a : Access) (t : Bool) → correctionIn (injectionRow (DataAbort a)) t ≡ Plus 8
+abort-correction a true = refl
+abort-correction a false = refl
 
 -- a data abort of a fault and an address that pass, with high vectors
 aborted : (s : Guest) (a : Access) (status sctlr : ℕ) → Passing s a → sound status ≡ true → bitOf sctlr 13 ≡ true
-    → s .status ≡ status → s .sctlr ≡ sctlr → Leaves s (DataAbort a) (entryStatus Abort status sctlr) (linkOf (s .pc) (pos 8)) 0xFFFF0010
-unfolding stateAfter
+    → s .status ≡ status → s .sctlr ≡ sctlr → Leaves s (DataAbort a) (entryStatus Abort true status sctlr) (linkOf (s .pc) (pos 8)) 0xFFFF0010
+unfolding entered
 aborted s a status sctlr p is-sound high st sc =
     leaves s (DataAbort a) (record { status = ap sound st ∙ is-sound; vbar = p .vbar; fault = p .fault; address = p .address })
-    (ap₂ (entryStatus Abort) st sc)
-    (link-held s (DataAbort a) (subst (λ (n : ℕ). 20 < n) (sym (p .whole)) (lit< tt)))
-    (ap (λ (b : Bool). cond b 0xFFFF_0000 (s .vbar) + 0x10) (ap (λ (w : ℕ). bitOf w 13) sc ∙ high))
+    (ap₂ (entryStatus Abort true) st sc)
+    (link-held s (DataAbort a) (subst (λ (n : ℕ). 20 < n) (sym (p .whole)) (lit< tt))
+    ∙ ap (λ (c : Correction). linkOf (s .pc) (signed c)) (abort-correction a (t32 (s .status))))
+    (ap (λ (b : Bool). (cond b 0xFFFF_0000 (s .vbar) + 0x10) % 2 ^ 32) (ap (λ (w : ℕ). bitOf w 13) sc ∙ high))
 
 -- 0x91830005: a word load of register 3 with IL 0
 load-of-3 : Record

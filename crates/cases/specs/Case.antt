@@ -13,8 +13,7 @@ use Rattle.syndrome.specs.declared.record.Record.{Record}
 use Rattle.syndrome.specs.declared.answer.Read.{Read}
 use Rattle.guest.specs.Inject.{injected}
 use Rattle.guest.specs.Link.{linkOf}
-use Rattle.guest.specs.Mode.{linkRegister}
-use Rattle.guest.specs.Injection.{modeOf}
+use Rattle.guest.specs.Injection.{injectionRow}
 use Rattle.guest.specs.Tests.{aligned, writable, addressFits}
 use Rattle.guest.specs.declared.answer.Answer.the-variants.{Accepted}
 use Rattle.guest.specs.declared.injection.Injection.{Injection}
@@ -38,7 +37,7 @@ AnswersAs read (refused number mask count) =
 pub record Leaves (s : Guest) (i : Injection) (status link pc : ℕ) : Type 0 where
   pub answer : injected s i .answer ≡ Accepted
   pub new-status : injected s i .state .status ≡ status
-  pub new-link : getD (injected s i .state .regs) (linkRegister (modeOf i)) 0 ≡ link
+  pub new-link : getD (injected s i .state .regs) (injectionRow i .link) 0 ≡ link
   pub new-pc : injected s i .state .pc ≡ pc
 
 pub data Case : Type 0 where
@@ -73,7 +72,7 @@ Holds (data-abort status sctlr status′ pc′) =
     → Leaves s (DataAbort a) status′ (linkOf (s .pc) (pos 8)) pc′
 Holds (data-abort-link status sctlr pc link) =
     (s : Guest) (a : Access) → Passing s a → s .status ≡ status → s .sctlr ≡ sctlr → s .pc ≡ pc
-    → getD (injected s (DataAbort a) .state .regs) (linkRegister (modeOf (DataAbort a))) 0 ≡ link
+    → getD (injected s (DataAbort a) .state .regs) (injectionRow (DataAbort a) .link) 0 ≡ link
 
 -- the one statement of a list of cases
 abbrev pub AllHold : List Case → Type 0

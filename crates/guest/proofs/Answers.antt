@@ -1,38 +1,44 @@
 -- Laws of the answer, and of the state beside it, for every state and every injection.
-use mathlib.Core.Path.{_≡_, refl, sym, ap, subst, _∙_}
-use mathlib.Core.Bool.{Bool, true, false, cond}
+use mathlib.Core.Path.{_≡_, refl, sym, ap, _∙_}
+use mathlib.Core.Bool.{true, cond}
 use mathlib.Core.Logic.{_↔_}
 use Prim.Native.Nat.{ℕ}
-use lib.Dec.{eqb}
+use lib.Dec.{T, eqb}
+use Rattle.bits.specs.Decide.{decide, FirstFails}
+use Rattle.bits.proofs.Deciding.{decide-relabel, all-pass, decided-exactly, answer-is}
+use Rattle.status.specs.Sound.{sound}
 use Rattle.guest.specs.declared.state.Guest.{Guest}
 use Rattle.guest.specs.declared.answer.Answer.{Answer}
 use Rattle.guest.specs.declared.answer.Answer.the-variants.{Accepted, UnsoundStatus, UnalignedVbar, UnwritableFault, WideAddress}
 use Rattle.guest.specs.declared.injection.Injection.{Injection}
-use Rattle.guest.specs.Answer.{numberOf}
-use Rattle.guest.specs.Status.{sound}
-use Rattle.guest.specs.Tests.{aligned, writable, addressFits, needs, answerOf}
-use Rattle.guest.specs.Inject.{stateAfter, resulting, injected}
+use Rattle.guest.specs.declared.injector.Injected.{Injected}
+use Rattle.guest.specs.Answer.{answerNumber, listed, injectionList}
+use Rattle.guest.specs.Tests.{aligned, writable, addressFits, injectionTests, injectionNumbers}
+use Rattle.guest.specs.Inject.{guestAfter, injectionAnswer, resulting, injected}
+use Rattle.guest.specs.Promise.{Promise}
 
--- ---- the first test that fails gives the answer
+-- ---- the first test that fails gives the number
 
--- four tests in their order, and the answer that they decide on
-pub data Decided (p q r s : Bool) : Answer → Type 0 where
-  nine : p ≡ false → Decided p q r s UnsoundStatus
-  ten : p ≡ true → q ≡ false → Decided p q r s UnalignedVbar
-  eleven : p ≡ true → q ≡ true → r ≡ false → Decided p q r s UnwritableFault
-  twelve : p ≡ true → q ≡ true → r ≡ true → s ≡ false → Decided p q r s WideAddress
-  none : p ≡ true → q ≡ true → r ≡ true → s ≡ true → Decided p q r s Accepted
+pub number-decided : (s : Guest) (i : Injection) → answerNumber (injectionAnswer s i) ≡ decide (injectionNumbers s i) 0
+unfolding injectionAnswer
+number-decided s i = decide-relabel answerNumber (injectionTests s i) Accepted
 
-first-failing : (p q r s : Bool) → Decided p q r s (needs p UnsoundStatus (needs q UnalignedVbar (needs r UnwritableFault (needs s WideAddress Accepted))))
-first-failing false q r s = nine refl
-first-failing true false r s = ten refl refl
-first-failing true true false s = eleven refl refl refl
-first-failing true true true false = twelve refl refl refl refl
-first-failing true true true true = none refl refl refl refl
+-- what the calls promise of the answer and the state, by their equation alone
+pub promised : (s : Guest) (i : Injection) {r : Injected} → r ≡ injected s i → Promise s i r
+unfolding injected
+promised s i e =
+    record { result = e; number = ap (λ (r : Injected). answerNumber (r .answer)) e ∙ number-decided s i; mask = refl; count = refl }
 
-pub decided : (s : Guest) (i : Injection) → Decided (sound (s .status)) (aligned (s .vbar)) (writable i (s .ttbcr)) (addressFits i) (answerOf s i)
-unfolding answerOf
-decided s i = first-failing (sound (s .status)) (aligned (s .vbar)) (writable i (s .ttbcr)) (addressFits i)
+-- an injection answers 0 or 9 to 12
+pub number-listed : (s : Guest) (i : Injection) → T (listed (decide (injectionNumbers s i) 0) injectionList)
+number-listed s i = answer-is (λ n. T (listed n injectionList)) (injectionNumbers s i) 0 (tt, (tt, (tt, (tt, tt)))) tt
+
+-- EACH REFUSAL EXACTLY: an injection answers a number exactly when its test is the first that fails, and 0 exactly when none fails
+pub decided : (s : Guest) (i : Injection) (k : ℕ) → (answerNumber (injectionAnswer s i) ≡ k) ↔ FirstFails k (injectionNumbers s i)
+decided s i k = (
+  λ e. decided-exactly (injectionNumbers s i) tt k .0 (sym (number-decided s i) ∙ e),
+  λ f. number-decided s i ∙ decided-exactly (injectionNumbers s i) tt k .1 f,
+)
 
 -- ---- an injection is taken exactly when it passes the four tests
 
@@ -42,15 +48,17 @@ pub record Passes (s : Guest) (i : Injection) : Type 0 where
   pub fault : writable i (s .ttbcr) ≡ true
   pub address : addressFits i ≡ true
 
-passes : (s : Guest) (i : Injection) → Decided (sound (s .status)) (aligned (s .vbar)) (writable i (s .ttbcr)) (addressFits i) Accepted → Passes s i
-passes s i (none a b c d) = record { status = a; vbar = b; fault = c; address = d }
+passes : (s : Guest) (i : Injection) → injectionAnswer s i ≡ Accepted → Passes s i
+passes s i e =
+    let p = decided s i 0 .0 (ap answerNumber e) in
+    record { status = p .0; vbar = p .1 .0; fault = p .1 .1 .0; address = p .1 .1 .1 .0 }
 
-taken : (s : Guest) (i : Injection) → Passes s i → answerOf s i ≡ Accepted
-unfolding answerOf
-taken s i p = rw (p .status, p .vbar, p .fault, p .address)
+taken : (s : Guest) (i : Injection) → Passes s i → injectionAnswer s i ≡ Accepted
+unfolding injectionAnswer
+taken s i p = all-pass (injectionTests s i) Accepted (p .status, (p .vbar, (p .fault, (p .address, tt))))
 
-pub accepted-exactly : (s : Guest) (i : Injection) → (answerOf s i ≡ Accepted) ↔ Passes s i
-accepted-exactly s i = (λ e. passes s i (subst (Decided _ _ _ _) e (decided s i)), taken s i)
+pub accepted-exactly : (s : Guest) (i : Injection) → (injectionAnswer s i ≡ Accepted) ↔ Passes s i
+accepted-exactly s i = (passes s i, taken s i)
 
 -- ---- a refusal gives back the very state, and an injection that is taken the defined one
 
@@ -61,20 +69,20 @@ untouched UnalignedVbar s after n = refl
 untouched UnwritableFault s after n = refl
 untouched WideAddress s after n = refl
 
-pub refused-untouched : (s : Guest) (i : Injection) → (answerOf s i ≡ Accepted → ⊥) → injected s i .state ≡ s
+pub refused-untouched : (s : Guest) (i : Injection) → (injectionAnswer s i ≡ Accepted → ⊥) → injected s i .state ≡ s
 unfolding injected
-refused-untouched s i = untouched (answerOf s i) s (stateAfter s i)
+refused-untouched s i = untouched (injectionAnswer s i) s (guestAfter s i)
 
-pub accepted-state : (s : Guest) (i : Injection) → answerOf s i ≡ Accepted → injected s i .state ≡ stateAfter s i
+pub accepted-state : (s : Guest) (i : Injection) → injectionAnswer s i ≡ Accepted → injected s i .state ≡ guestAfter s i
 unfolding injected
-accepted-state s i e = ap (λ (a : Answer). resulting a s (stateAfter s i)) e
+accepted-state s i e = ap (λ (a : Answer). resulting a s (guestAfter s i)) e
 
 -- ---- no two answers have one number
 
 answerAt : ℕ → Answer
 answerAt n = cond (eqb n 0) Accepted (cond (eqb n 9) UnsoundStatus (cond (eqb n 10) UnalignedVbar (cond (eqb n 11) UnwritableFault WideAddress)))
 
-back : (a : Answer) → answerAt (numberOf a) ≡ a
+back : (a : Answer) → answerAt (answerNumber a) ≡ a
 unfolding answerAt
 back Accepted = refl
 back UnsoundStatus = refl
@@ -82,5 +90,5 @@ back UnalignedVbar = refl
 back UnwritableFault = refl
 back WideAddress = refl
 
-pub numbers-differ : (a b : Answer) → numberOf a ≡ numberOf b → a ≡ b
+pub numbers-differ : (a b : Answer) → answerNumber a ≡ answerNumber b → a ≡ b
 numbers-differ a b e = sym (back a) ∙ ap answerAt e ∙ back b

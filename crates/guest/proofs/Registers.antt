@@ -5,14 +5,15 @@ use lib.ListN.{length, getD}
 use lib.Seq.{getD-set-same, getD-set-other}
 use Rattle.guest.specs.declared.state.Guest.{Guest}
 use Rattle.guest.specs.declared.injection.Injection.{Injection}
-use Rattle.guest.specs.Mode.{linkRegister}
-use Rattle.guest.specs.Injection.{modeOf}
-use Rattle.guest.specs.Inject.{linkAfter, stateAfter}
+use Rattle.guest.specs.Injection.{injectionRow}
+use Rattle.guest.specs.Entry.{linkFrom, entered}
+use Rattle.guest.specs.Inject.{guestAfter}
 
-pub link-held : (s : Guest) (i : Injection) → linkRegister (modeOf i) < length (s .regs) → getD (stateAfter s i .regs) (linkRegister (modeOf i)) 0 ≡ linkAfter s i
-unfolding stateAfter
-link-held s i h = getD-set-same (s .regs) (linkRegister (modeOf i)) (linkAfter s i) 0 h
+pub link-held : (s : Guest) (i : Injection) → injectionRow i .link < length (s .regs)
+    → getD (guestAfter s i .regs) (injectionRow i .link) 0 ≡ linkFrom s (injectionRow i)
+unfolding entered
+link-held s i h = getD-set-same (s .regs) (injectionRow i .link) (linkFrom s (injectionRow i)) 0 h
 
-pub others-kept : (s : Guest) (i : Injection) (k : ℕ) → (k ≡ linkRegister (modeOf i) → ⊥) → getD (stateAfter s i .regs) k 0 ≡ getD (s .regs) k 0
-unfolding stateAfter
-others-kept s i k n = getD-set-other (s .regs) (linkRegister (modeOf i)) k (linkAfter s i) 0 n
+pub others-kept : (s : Guest) (i : Injection) (k : ℕ) → (k ≡ injectionRow i .link → ⊥) → getD (guestAfter s i .regs) k 0 ≡ getD (s .regs) k 0
+unfolding entered
+others-kept s i k n = getD-set-other (s .regs) (injectionRow i .link) k (linkFrom s (injectionRow i)) 0 n

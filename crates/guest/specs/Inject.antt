@@ -1,73 +1,54 @@
--- An injection: its answer, and the whole state after it.
-use Prim.Native.Nat.{ℕ, _+_}
-use lib.ListN.{set}
+-- An injection (01, 'Guest state and the five injections'): its answer, and the whole state after it.
+use Prim.Native.Nat.{ℕ}
+use mathlib.Core.Bool.{cond}
+use lib.Dec.{eqb}
+use Rattle.bits.specs.Decide.{decide}
+use Rattle.fault.specs.declared.Encoding.{Encoding}
+use Rattle.fault.specs.declared.Encoding.the-variants.{Code, Unwritable}
+use Rattle.fault.specs.Fault.{ifsrWord, dfsrWord}
+use Rattle.guest.specs.declared.state.FaultRegisters.{FaultRegisters}
 use Rattle.guest.specs.declared.state.Guest.{Guest}
 use Rattle.guest.specs.declared.answer.Answer.{Answer}
-use Rattle.guest.specs.declared.answer.Answer.the-variants.{Accepted, UnsoundStatus, UnalignedVbar, UnwritableFault, WideAddress}
-use Rattle.guest.specs.declared.fault.Encoding.{Encoding}
-use Rattle.guest.specs.declared.fault.Encoding.the-variants.{Code, Unwritable}
-use Rattle.guest.specs.declared.injection.Fetch.{Fetch}
-use Rattle.guest.specs.declared.injection.Access.{Access}
+use Rattle.guest.specs.declared.answer.Answer.the-variants.{Accepted}
 use Rattle.guest.specs.declared.injection.Injection.{Injection}
 use Rattle.guest.specs.declared.injection.Injection.the-variants.{UndefinedAt, UndefinedAfter, SupervisorCall, PrefetchAbort, DataAbort}
 use Rattle.guest.specs.declared.injector.Injected.{Injected}
-use Rattle.bits.specs.Field.{bitOf}
-use Rattle.guest.specs.Status.{entryStatus}
-use Rattle.guest.specs.Mode.{linkRegister, savedIn}
-use Rattle.guest.specs.Injection.{modeOf, vectorOf}
-use Rattle.guest.specs.Link.{correctionOf, linkOf}
-use Rattle.guest.specs.Entry.{vectorBase}
-use Rattle.guest.specs.Fault.{ifsrWord, dfsrWord}
-use Rattle.guest.specs.Tests.{answerOf}
+use Rattle.guest.specs.Answer.{answerNumber}
+use Rattle.guest.specs.Injection.{injectionRow}
+use Rattle.guest.specs.Entry.{entered}
+use Rattle.guest.specs.Tests.{injectionTests}
 
--- the link, from the old PC and the old T bit
-abbrev pub linkAfter : Guest → Injection → ℕ
-linkAfter s i = linkOf (s .pc) (correctionOf i (bitOf (s .status) 5))
+-- a prefetch abort writes IFSR and IFAR, a data abort DFSR and DFAR
+abbrev pub fetchWrites : FaultRegisters → ℕ → ℕ → FaultRegisters
+fetchWrites old status address = record { dfsr = old .dfsr; ifsr = status; dfar = old .dfar; ifar = address }
 
--- a register that only a prefetch abort writes, and one that only a data abort writes
-abbrev pub onFetch : Injection → (Fetch → ℕ) → ℕ → ℕ
-onFetch UndefinedAt new old = old
-onFetch UndefinedAfter new old = old
-onFetch SupervisorCall new old = old
-onFetch (PrefetchAbort f) new old = new f
-onFetch (DataAbort a) new old = old
+abbrev pub accessWrites : FaultRegisters → ℕ → ℕ → FaultRegisters
+accessWrites old status address = record { dfsr = status; ifsr = old .ifsr; dfar = address; ifar = old .ifar }
 
-abbrev pub onAccess : Injection → (Access → ℕ) → ℕ → ℕ
-onAccess UndefinedAt new old = old
-onAccess UndefinedAfter new old = old
-onAccess SupervisorCall new old = old
-onAccess (PrefetchAbort f) new old = old
-onAccess (DataAbort a) new old = new a
+-- a fault status register's word; an abort that is taken has one
+abbrev pub codeIn : Encoding → ℕ
+codeIn (Code w) = w
+codeIn Unwritable = 0
 
--- a fault status register's new word; an abort that is taken has one
-abbrev pub written : Encoding → ℕ → ℕ
-written (Code w) old = w
-written Unwritable old = old
+-- the fault registers after an injection that is taken
+abbrev pub faultsAfter : Injection → FaultRegisters → ℕ → FaultRegisters
+faultsAfter UndefinedAt old ttbcr = old
+faultsAfter UndefinedAfter old ttbcr = old
+faultsAfter SupervisorCall old ttbcr = old
+faultsAfter (PrefetchAbort f) old ttbcr = fetchWrites old (codeIn (ifsrWord (f .fault) ttbcr)) (f .address)
+faultsAfter (DataAbort a) old ttbcr = accessWrites old (codeIn (dfsrWord (a .fault) (a .write) ttbcr)) (a .address)
 
 -- the state after an injection that is taken
-unfoldable pub stateAfter : Guest → Injection → Guest
-stateAfter s i =
-    record {
-      regs = set (s .regs) (linkRegister (modeOf i)) (linkAfter s i);
-      pc = vectorBase (s .sctlr) (s .vbar) + vectorOf i;
-      status = entryStatus (modeOf i) (s .status) (s .sctlr);
-      saved = savedIn (modeOf i) (s .saved) (s .status);
-      dfsr = onAccess i (λ a. written (dfsrWord a (s .ttbcr)) (s .dfsr)) (s .dfsr);
-      ifsr = onFetch i (λ f. written (ifsrWord f (s .ttbcr)) (s .ifsr)) (s .ifsr);
-      dfar = onAccess i (λ a. a .address) (s .dfar);
-      ifar = onFetch i (λ f. f .address) (s .ifar);
-      sctlr = s .sctlr;
-      vbar = s .vbar;
-      ttbcr = s .ttbcr;
-    }
+abbrev pub guestAfter : Guest → Injection → Guest
+guestAfter s i = entered s (injectionRow i) (faultsAfter i (s .faults) (s .ttbcr))
 
--- a refusal gives back the state as it came
+-- the first test that fails gives the answer
+unfoldable pub injectionAnswer : Guest → Injection → Answer
+injectionAnswer s i = decide (injectionTests s i) Accepted
+
+-- an answer 0 comes with the new state, and a refusal gives back the state as it came
 abbrev pub resulting : Answer → Guest → Guest → Guest
-resulting Accepted s after = after
-resulting UnsoundStatus s after = s
-resulting UnalignedVbar s after = s
-resulting UnwritableFault s after = s
-resulting WideAddress s after = s
+resulting a s after = cond (eqb (answerNumber a) 0) after s
 
 unfoldable pub injected : Guest → Injection → Injected
-injected s i = record { answer = answerOf s i; state = resulting (answerOf s i) s (stateAfter s i) }
+injected s i = record { answer = injectionAnswer s i; state = resulting (injectionAnswer s i) s (guestAfter s i) }

@@ -1,20 +1,21 @@
--- The injections' table: the mode, and the vector.
+-- The table of injections (01, 'Guest state and the five injections').
 use Prim.Native.Nat.{ℕ}
-use Rattle.guest.specs.declared.mode.Mode.{Mode}
-use Rattle.guest.specs.declared.mode.Mode.the-variants.{Supervisor, Abort, Undefined}
+use mathlib.Core.Bool.{Bool, true, false}
+use Rattle.status.specs.declared.Mode.{Mode}
+use Rattle.status.specs.declared.Mode.the-variants.{Supervisor, Abort, Undefined}
+use Rattle.guest.specs.declared.link.Correction.{Correction}
+use Rattle.guest.specs.declared.link.Correction.the-variants.{Plus, Minus}
+use Rattle.guest.specs.declared.injection.Row.{Row}
 use Rattle.guest.specs.declared.injection.Injection.{Injection}
 use Rattle.guest.specs.declared.injection.Injection.the-variants.{UndefinedAt, UndefinedAfter, SupervisorCall, PrefetchAbort, DataAbort}
 
-abbrev pub modeOf : Injection → Mode
-modeOf UndefinedAt = Undefined
-modeOf UndefinedAfter = Undefined
-modeOf SupervisorCall = Supervisor
-modeOf (PrefetchAbort f) = Abort
-modeOf (DataAbort a) = Abort
+-- the mode, the vector, the link register, whether A is set, and the correction to PC in A32 and in T32
+abbrev row : Mode → ℕ → ℕ → Bool → Correction → Correction → Row
+row mode vector link a a32 t32 = record { mode = mode; vector = vector; link = link; a = a; a32 = a32; t32 = t32 }
 
-abbrev pub vectorOf : Injection → ℕ
-vectorOf UndefinedAt = 0x04
-vectorOf UndefinedAfter = 0x04
-vectorOf SupervisorCall = 0x08
-vectorOf (PrefetchAbort f) = 0x0C
-vectorOf (DataAbort a) = 0x10
+abbrev pub injectionRow : Injection → Row
+injectionRow UndefinedAt = row Undefined 0x04 22 false (Plus 4) (Plus 2)
+injectionRow UndefinedAfter = row Undefined 0x04 22 false (Plus 0) (Minus 2)
+injectionRow SupervisorCall = row Supervisor 0x08 18 false (Plus 0) (Plus 0)
+injectionRow (PrefetchAbort f) = row Abort 0x0C 20 true (Plus 4) (Plus 4)
+injectionRow (DataAbort a) = row Abort 0x10 20 true (Plus 8) (Plus 8)

@@ -1,12 +1,10 @@
--- What the contracts of `guest` say, by the paper's section on the guest state and the five injections.
-pub mod Kept
+-- What the contracts of `guest` say, by document 01's 'Guest state and the five injections'. `Inner` is for the proofs alone.
 pub mod Answer
-pub mod Mode
-pub mod Status
-pub mod Injection
+pub mod State
 pub mod Link
+pub mod Injection
 pub mod Entry
-pub mod Fault
 pub mod Tests
 pub mod Inject
-pub mod Report
+pub mod Promise
+pub mod Inner

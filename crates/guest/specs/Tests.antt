@@ -1,33 +1,29 @@
--- The tests of an injection, 9 to 12, and its answer.
+-- The tests of an injection (01, 'Numbers a call may answer': "Injecting tests 9, 10, 11, 12").
 use Prim.Native.Nat.{ℕ, _^_}
-use mathlib.Core.Bool.{Bool, true, false}
+use mathlib.Core.Bool.{Bool, true}
+use mathlib.Core.List.{List, [], _∷_}
 use lib.Dec.{eqb, ltb}
+use Rattle.bits.specs.Field.{fieldOf}
+use Rattle.bits.specs.Decide.{Test, needs}
+use Rattle.status.specs.Sound.{sound}
+use Rattle.fault.specs.Fault.{ifsrWord, dfsrWord, isCode}
 use Rattle.guest.specs.declared.state.Guest.{Guest}
 use Rattle.guest.specs.declared.answer.Answer.{Answer}
-use Rattle.guest.specs.declared.answer.Answer.the-variants.{Accepted, UnsoundStatus, UnalignedVbar, UnwritableFault, WideAddress}
-use Rattle.guest.specs.declared.fault.Encoding.{Encoding}
-use Rattle.guest.specs.declared.fault.Encoding.the-variants.{Code, Unwritable}
+use Rattle.guest.specs.declared.answer.Answer.the-variants.{UnsoundStatus, UnalignedVbar, UnwritableFault, WideAddress}
 use Rattle.guest.specs.declared.injection.Injection.{Injection}
 use Rattle.guest.specs.declared.injection.Injection.the-variants.{UndefinedAt, UndefinedAfter, SupervisorCall, PrefetchAbort, DataAbort}
-use Rattle.bits.specs.Field.{fieldOf}
-use Rattle.guest.specs.Status.{sound}
-use Rattle.guest.specs.Fault.{ifsrWord, dfsrWord}
 
 -- 10: VBAR bits 4:0 are zero
 unfoldable pub aligned : ℕ → Bool
 aligned vbar = eqb (fieldOf vbar 4 0) 0
 
 -- 11: an abort's fault can be written in its register, in the format that TTBCR chooses
-abbrev pub isCode : Encoding → Bool
-isCode (Code w) = true
-isCode Unwritable = false
-
 abbrev pub writable : Injection → ℕ → Bool
-writable UndefinedAt t = true
-writable UndefinedAfter t = true
-writable SupervisorCall t = true
-writable (PrefetchAbort f) t = isCode (ifsrWord f t)
-writable (DataAbort a) t = isCode (dfsrWord a t)
+writable UndefinedAt ttbcr = true
+writable UndefinedAfter ttbcr = true
+writable SupervisorCall ttbcr = true
+writable (PrefetchAbort f) ttbcr = isCode (ifsrWord (f .fault) ttbcr)
+writable (DataAbort a) ttbcr = isCode (dfsrWord (a .fault) (a .write) ttbcr)
 
 -- 12: an abort's address has no bit of 63:32 set
 abbrev pub addressFits : Injection → Bool
@@ -37,15 +33,20 @@ addressFits SupervisorCall = true
 addressFits (PrefetchAbort f) = ltb (f .address) (2 ^ 32)
 addressFits (DataAbort a) = ltb (a .address) (2 ^ 32)
 
--- where a test fails its refusal is the answer, else what comes after it is
-abbrev pub needs : Bool → Answer → Answer → Answer
-needs true refusal next = next
-needs false refusal next = refusal
+-- the tests in their order, each with its number; 0 comes where none fails
+abbrev pub injectionNumbers : Guest → Injection → List (Test ℕ)
+injectionNumbers s i =
+    needs (sound (s .status)) 9
+    ∷ needs (aligned (s .vbar)) 10
+    ∷ needs (writable i (s .ttbcr)) 11
+    ∷ needs (addressFits i) 12
+    ∷ []
 
-unfoldable pub answerOf : Guest → Injection → Answer
-answerOf s i =
+-- the same tests, each with its answer
+abbrev pub injectionTests : Guest → Injection → List (Test Answer)
+injectionTests s i =
     needs (sound (s .status)) UnsoundStatus
-    (needs (aligned (s .vbar)) UnalignedVbar
-    (needs (writable i (s .ttbcr)) UnwritableFault
-    (needs (addressFits i) WideAddress
-    Accepted)))
+    ∷ needs (aligned (s .vbar)) UnalignedVbar
+    ∷ needs (writable i (s .ttbcr)) UnwritableFault
+    ∷ needs (addressFits i) WideAddress
+    ∷ []

@@ -1,6 +1,6 @@
 // What an injection answers.
 ghost use mathlib.Core.Path.{_≡_};
-ghost use Rattle.guest.specs.Answer.{numberOf};
+ghost use Rattle.guest.specs.Answer.{answerNumber};
 
 pub enum Answer {
     Accepted,
@@ -15,7 +15,7 @@ pub enum Answer {
 }
 
 pub fn number(answer: Answer) -> u32
-    ensures { λ r. ⌜ r ≡ numberOf answer ⌝ }
+    ensures { λ r. ⌜ r ≡ answerNumber answer ⌝ }
 {
     match answer {
         Answer::Accepted => 0,

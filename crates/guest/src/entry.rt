@@ -1,17 +1,21 @@
 // Exception entry: the one place that changes the guest's mode.
 ghost use mathlib.Core.Path.{_≡_};
-ghost use Rattle.guest.specs.Entry.{vectorBase, entered};
+ghost use Rattle.guest.specs.Entry.{vectorBase, correctionIn, withRegister, savedIn, entered};
 ghost use Rattle.guest.specs.Tests.{aligned};
-use crate::mode::Mode;
-use crate::mode::link_register;
-use crate::mode::saved_in;
+use crate::injection::Row;
+use crate::link::Correction;
+use crate::link::link_of;
+use crate::state::FaultRegisters;
 use crate::state::Guest;
-use crate::status::entry_status;
+use crate::state::Saved;
 use bits::bit;
+use status::Mode;
+use status::entry_status;
+use status::t32;
 use std::num::wrapping_add_u32;
 
 // A vector table starts at a multiple of 32.
-pub fn is_aligned(vbar: u32) -> bool
+pub(crate) fn aligned(vbar: u32) -> bool
     ensures { λ r. ⌜ r ≡ aligned vbar ⌝ }
 {
     vbar & 0x1F == 0
@@ -28,17 +32,53 @@ fn vector_base(sctlr: u32, vbar: u32) -> u32
     }
 }
 
-// The state as the handler at `vector` finds it, with `link` in the mode's LR.
-pub fn enter(state: Guest, mode: Mode, vector: u32, link: u32) -> Guest
-    ensures { λ r. ⌜ r ≡ entered state mode vector link ⌝ }
+// The correction of the instruction set that the guest was in.
+fn correction_in(row: Row, t32: bool) -> Correction
+    ensures { λ r. ⌜ r ≡ correctionIn row t32 ⌝ }
+{
+    if t32 { row.t32 } else { row.a32 }
+}
+
+// The registers with a new value in register n; a state has no register from 31 on.
+fn with_register(regs: [u32; 31], n: usize, value: u32) -> [u32; 31]
+    ensures { λ r. ⌜ r ≡ withRegister regs n value ⌝ }
+{
+    let mut after = regs;
+    if n < 31 {
+        after[n] = value;
+    }
+    after
+}
+
+// The saved status words, with `word` as the mode's own.
+fn saved_in(mode: Mode, saved: Saved, word: u32) -> Saved
+    ensures { λ r. ⌜ r ≡ savedIn mode saved word ⌝ }
+{
+    let mut after = saved;
+    match mode {
+        Mode::Supervisor => after.svc = word,
+        Mode::Abort => after.abt = word,
+        Mode::Undefined => after.und = word,
+    }
+    after
+}
+
+// The state as the handler finds it, with the fault registers that the exception leaves.
+pub(crate) fn enter(state: Guest, row: Row, faults: FaultRegisters) -> Guest
+    ensures { λ r. ⌜ r ≡ entered state row faults ⌝ }
 {
     let mut after = state;
-    let lr = link_register(mode);
-    after.regs[lr] = link;
+    let mode = row.mode;
+    let link = link_of(state.pc, correction_in(row, t32(state.status)));
+    let regs = state.regs;
+    let new_regs = with_register(regs, row.link, link);
+    after.regs = new_regs;
+    let status = entry_status(mode, row.a, state.status, state.sctlr);
     let old = state.saved;
     let saved = saved_in(mode, old, state.status);
     after.saved = saved;
-    after.status = entry_status(mode, state.status, state.sctlr);
-    after.pc = wrapping_add_u32(vector_base(state.sctlr, state.vbar), vector);
+    after.status = status;
+    after.pc = wrapping_add_u32(vector_base(state.sctlr, state.vbar), row.vector);
+    after.faults = faults;
     after
 }

@@ -1,34 +1,36 @@
 // What an abort writes to the guest's fault registers.
 ghost use mathlib.Core.Path.{_≡_};
-ghost use Rattle.guest.specs.Report.{wordsOf, reportOf, faultWritten};
-use crate::fault::Encoding;
-use crate::fault::dfsr_word;
-use crate::fault::ifsr_word;
+ghost use Rattle.guest.specs.Inner.{fetchReport, accessReport, reportOf};
+use crate::injection::Access;
+use crate::injection::Fetch;
 use crate::injection::Injection;
-use crate::state::Guest;
+use crate::state::FaultRegisters;
+use fault::Encoding;
+use fault::dfsr_word;
+use fault::ifsr_word;
 
 pub(crate) enum Report {
-    // The injection is no abort.
-    Nothing,
-    // The words of a fault status register and its fault address register.
-    Words { status: u32, address: u32 },
+    // The fault registers after the injection.
+    Registers(FaultRegisters),
     // The fault, or else its address, can't be written.
     NoStatus,
     NoAddress,
 }
 
-// A fault's words, with the tests in their order: first the status, then the address.
-fn words_of(encoding: Encoding, address: u64) -> Report
-    ensures { λ r. ⌜ r ≡ wordsOf encoding address ⌝ }
+fn fetch_report(fetch: Fetch, old: FaultRegisters, ttbcr: u32) -> Report
+    ensures { λ r. ⌜ r ≡ fetchReport fetch old ttbcr ⌝ }
 {
-    match encoding {
+    let fault = fetch.fault;
+    match ifsr_word(fault, ttbcr) {
         Encoding::Unwritable => Report::NoStatus,
         Encoding::Code(status) => {
-            if address < 0x1_0000_0000 {
-                Report::Words {
-                    status,
-                    address: address as u32,
-                }
+            if fetch.address < 0x1_0000_0000 {
+                Report::Registers(FaultRegisters {
+                    dfsr: old.dfsr,
+                    ifsr: status,
+                    dfar: old.dfar,
+                    ifar: fetch.address as u32,
+                })
             } else {
                 Report::NoAddress
             }
@@ -36,35 +38,35 @@ fn words_of(encoding: Encoding, address: u64) -> Report
     }
 }
 
-pub(crate) fn report_of(what: Injection, ttbcr: u32) -> Report
-    ensures { λ r. ⌜ r ≡ reportOf what ttbcr ⌝ }
+fn access_report(access: Access, old: FaultRegisters, ttbcr: u32) -> Report
+    ensures { λ r. ⌜ r ≡ accessReport access old ttbcr ⌝ }
 {
-    match what {
-        Injection::UndefinedAt => Report::Nothing,
-        Injection::UndefinedAfter => Report::Nothing,
-        Injection::SupervisorCall => Report::Nothing,
-        Injection::PrefetchAbort(fetch) => words_of(ifsr_word(fetch, ttbcr), fetch.address),
-        Injection::DataAbort(access) => words_of(dfsr_word(access, ttbcr), access.address),
+    let fault = access.fault;
+    match dfsr_word(fault, access.write, ttbcr) {
+        Encoding::Unwritable => Report::NoStatus,
+        Encoding::Code(status) => {
+            if access.address < 0x1_0000_0000 {
+                Report::Registers(FaultRegisters {
+                    dfsr: status,
+                    ifsr: old.ifsr,
+                    dfar: access.address as u32,
+                    ifar: old.ifar,
+                })
+            } else {
+                Report::NoAddress
+            }
+        }
     }
 }
 
-// The state with the words in the abort's own registers.
-pub(crate) fn write_fault(state: Guest, what: Injection, status: u32, address: u32) -> Guest
-    ensures { λ r. ⌜ r ≡ faultWritten state what status address ⌝ }
+pub(crate) fn report_of(what: Injection, old: FaultRegisters, ttbcr: u32) -> Report
+    ensures { λ r. ⌜ r ≡ reportOf what old ttbcr ⌝ }
 {
-    let mut after = state;
     match what {
-        Injection::UndefinedAt => {}
-        Injection::UndefinedAfter => {}
-        Injection::SupervisorCall => {}
-        Injection::PrefetchAbort(_) => {
-            after.ifsr = status;
-            after.ifar = address;
-        }
-        Injection::DataAbort(_) => {
-            after.dfsr = status;
-            after.dfar = address;
-        }
+        Injection::UndefinedAt => Report::Registers(old),
+        Injection::UndefinedAfter => Report::Registers(old),
+        Injection::SupervisorCall => Report::Registers(old),
+        Injection::PrefetchAbort(fetch) => fetch_report(fetch, old, ttbcr),
+        Injection::DataAbort(access) => access_report(access, old, ttbcr),
     }
-    after
 }

@@ -9,16 +9,20 @@ pub struct Saved {
     pub und: u32,
 }
 
+pub struct FaultRegisters {
+    pub dfsr: u32,
+    pub ifsr: u32,
+    pub dfar: u32,
+    pub ifar: u32,
+}
+
 // `regs` has the guest's registers in the AArch64 numbering, and `status` is its CPSR.
 pub struct Guest {
     pub regs: [u32; 31],
     pub pc: u32,
     pub status: u32,
     pub saved: Saved,
-    pub dfsr: u32,
-    pub ifsr: u32,
-    pub dfar: u32,
-    pub ifar: u32,
+    pub faults: FaultRegisters,
     pub sctlr: u32,
     pub vbar: u32,
     pub ttbcr: u32,

@@ -1,6 +1,5 @@
 // The one guest state that the monitor keeps, lent to an injection.
-ghost use mathlib.Core.Path.{_≡_};
-ghost use Rattle.guest.specs.Inject.{injected};
+ghost use Rattle.guest.specs.Promise.{Promise};
 use guest::Answer;
 use guest::Guest;
 use guest::Injection;
@@ -8,7 +7,7 @@ use guest::inject;
 
 // Injects into the state where it lies: answer and state are those of the call by value, on a refusal too.
 pub fn inject_in_place(state: &mut Guest, what: Injection) -> Answer
-    ensures { λ r. ⌜ (r ≡ injected (now (state .entry)) what .answer) × (now (state .exit) ≡ injected (now (state .entry)) what .state) ⌝ }
+    ensures { λ r. ⌜ Promise (now (state .entry)) what (record { answer = r; state = now (state .exit) }) ⌝ }
 {
     let after = inject(*state, what);
     *state = after.state;

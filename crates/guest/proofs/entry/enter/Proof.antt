@@ -1,66 +1,50 @@
 -- `guest::entry::enter` meets its contract: each field that changes is what its call ensures.
-use mathlib.Core.Path.{_≡_, ap, _∙_}
-use Prim.Native.Nat.{ℕ, _+_, _%_, _^_, _<_}
-use native.Mathlib.Omega.{arith}
-use lib.ListN.{set}
+use mathlib.Core.Path.{_≡_, refl, ap, _∙_}
+use mathlib.Core.Bool.{Bool}
+use mathlib.Core.List.{List}
+use Prim.Native.Nat.{ℕ, _+_, _%_, _^_}
 use borrow.Author.Needs.{needs}
+use Rattle.guest.proofs.entry.enter.Tie as tie
+use Rattle.status.specs.Entry.{t32, entryStatus}
+use Rattle.guest.specs.declared.link.Correction.{Correction}
+use Rattle.guest.specs.declared.injection.Row.{Row}
+use Rattle.guest.specs.declared.state.FaultRegisters.{FaultRegisters}
 use Rattle.guest.specs.declared.state.Guest.{Guest}
 use Rattle.guest.specs.declared.state.Saved.{Saved}
-use Rattle.guest.specs.declared.mode.Mode.{Mode}
-use Rattle.guest.specs.declared.mode.Mode.the-variants.{Supervisor, Abort, Undefined}
-use Rattle.guest.specs.Mode.{linkRegister, savedIn}
-use Rattle.guest.specs.Status.{entryStatus}
-use Rattle.guest.specs.Entry.{vectorBase, entered}
+use Rattle.guest.specs.State.{changed}
+use Rattle.guest.specs.Link.{signed, linkOf}
+use Rattle.guest.specs.Entry.{vectorBase, correctionIn, linkFrom, withRegister, savedIn, entered}
+use Rattle.guest.proofs.Changed.{changed-same}
 use Rattle.guest.proofs.entry.enter.Statement.{statement}
-use Rattle.guest.proofs.entry.enter.Tie as tie
 
-link-below : (m : Mode) → linkRegister m < 31
-link-below Supervisor = omega arith
-link-below Abort = omega arith
-link-below Undefined = omega arith
+module _ (s : Guest) (row : Row) (faults : FaultRegisters) where
+  link : {b : Bool} {k : Correction} {l : ℕ} → b ≡ t32 (s .status) → k ≡ correctionIn row b → l ≡ linkOf (s .pc) (signed k) → l ≡ linkFrom s row
+  link p q e = e ∙ ap (λ (k : Correction). linkOf (s .pc) (signed k)) (q ∙ ap (correctionIn row) p)
 
--- the state with the fields that an entry changes
-abbrev made : Guest → ℕ → ℕ → Saved → ℕ → ℕ → Guest
-made s r link sv st pc =
-    record {
-      regs = set (s .regs) r link;
-      pc = pc;
-      status = st;
-      saved = sv;
-      dfsr = s .dfsr;
-      ifsr = s .ifsr;
-      dfar = s .dfar;
-      ifar = s .ifar;
-      sctlr = s .sctlr;
-      vbar = s .vbar;
-      ttbcr = s .ttbcr;
-    }
-
-module _ (s : Guest) (m : Mode) (vector link : ℕ) where
-  all : {r : ℕ} {sv : Saved} {st b pc : ℕ} → r ≡ linkRegister m → sv ≡ savedIn m (s .saved) (s .status) → st ≡ entryStatus m (s .status) (s .sctlr)
-      → b ≡ vectorBase (s .sctlr) (s .vbar) → pc ≡ (b + vector) % 2 ^ 32 → made s r link sv st pc ≡ entered s m vector link
+  all : {regs : List ℕ} {saved : Saved} {l status base pc : ℕ} → l ≡ linkFrom s row → regs ≡ withRegister (s .regs) (row .link) l
+      → saved ≡ savedIn (row .mode) (s .saved) (s .status) → status ≡ entryStatus (row .mode) (row .a) (s .status) (s .sctlr)
+      → base ≡ vectorBase (s .sctlr) (s .vbar) → pc ≡ (base + row .vector) % 2 ^ 32 → changed s regs pc status saved faults ≡ entered s row faults
   unfolding entered
-  all {r} {sv} {st} {b} {pc} p q t u v =
-      ap (λ (x : ℕ). made s x link sv st pc) p
-      ∙ ap (λ (x : Saved). made s (linkRegister m) link x st pc) q
-      ∙ ap (λ (x : ℕ). made s (linkRegister m) link (savedIn m (s .saved) (s .status)) x pc) t
-      ∙ ap (made s (linkRegister m) link (savedIn m (s .saved) (s .status)) (entryStatus m (s .status) (s .sctlr)))
-      (v ∙ ap (λ (x : ℕ). (x + vector) % 2 ^ 32) u)
+  all e r v t b p =
+      changed-same s (r ∙ ap (withRegister (s .regs) (row .link)) e) (p ∙ ap (λ (x : ℕ). (x + row .vector) % 2 ^ 32) b) t v refl
 
-link-register-requires : tie.Need-link-register-requires
-link-register-requires c κs = search needs
+t32-requires : tie.Need-t32-requires
+t32-requires c κs = search needs
 
-mul-after : tie.Need-mul-after
-mul-after c = let h = link-below (c .before .args .mode) in omega (arith, c .link-register .ensures)
+correction-in-requires : tie.Need-correction-in-requires
+correction-in-requires c κs = search needs
 
-element-write-after : tie.Need-element-write-after
-element-write-after c = let h = link-below (c .before .args .mode) in omega (arith, c .link-register .ensures)
+link-of-requires : tie.Need-link-of-requires
+link-of-requires c κs = search needs
 
-saved-in-requires : tie.Need-saved-in-requires
-saved-in-requires c κs = search needs
+with-register-requires : tie.Need-with-register-requires
+with-register-requires c κs = search needs
 
 entry-status-requires : tie.Need-entry-status-requires
 entry-status-requires c κs = search needs
+
+saved-in-requires : tie.Need-saved-in-requires
+saved-in-requires c κs = search needs
 
 vector-base-requires : tie.Need-vector-base-requires
 vector-base-requires c κs = search needs
@@ -70,11 +54,15 @@ wrapping-add-u32-requires c κs = search needs
 
 returns : tie.Need-returns
 returns c =
-    let start = c .before .before .before .before .before .before in
-    all (start .args .state) (start .args .mode) (start .args .vector) (start .args .link)
-    (c .before .before .before .before .before .link-register .ensures)
-    (c .before .before .before .saved-in .ensures)
-    (c .before .before .entry-status .ensures)
+    let start = c .before .before .before .before .before .before .before .before .before .before in
+    all (start .args .state) (start .args .row) (start .args .faults)
+    (link (start .args .state) (start .args .row) (start .args .faults)
+    (c .before .before .before .before .before .before .before .before .before .t32 .ensures)
+    (c .before .before .before .before .before .before .before .before .correction-in .ensures)
+    (c .before .before .before .before .before .before .before .link-of .ensures))
+    (c .before .before .before .before .before .with-register .ensures)
+    (c .before .before .saved-in .ensures)
+    (c .before .before .before .before .entry-status .ensures)
     (c .before .vector-base .ensures)
     (c .wrapping-add-u32 .ensures)
 
@@ -82,11 +70,12 @@ pub enter-spec : {M : Type 1} → statement M
 enter-spec =
     tie.close
     (tie.spec
-    link-register-requires
-    mul-after
-    element-write-after
-    saved-in-requires
+    t32-requires
+    correction-in-requires
+    link-of-requires
+    with-register-requires
     entry-status-requires
+    saved-in-requires
     vector-base-requires
     wrapping-add-u32-requires
     returns)

@@ -1,18 +1,20 @@
--- `guest::report::report_of` meets its contract: an abort's words are those of its own encoding.
-use mathlib.Core.Path.{_≡_, refl, ap, _∙_}
+-- `guest::report::report_of` meets its contract: each arm's injection computes in the definition.
+use mathlib.Core.Path.{_≡_}
 use Prim.Native.Nat.{ℕ}
 use borrow.Author.Needs.{needs}
-use Rattle.guest.specs.declared.fault.Encoding.{Encoding}
-use Rattle.guest.specs.declared.injection.Injection.{Injection}
-use Rattle.guest.specs.declared.report.Report.{Report}
-use Rattle.guest.specs.Report.{wordsOf, reportOf}
-use Rattle.guest.proofs.Told.{told}
-use Rattle.guest.proofs.report.report_of.Statement.{statement}
 use Rattle.guest.proofs.report.report_of.Tie as tie
+use Rattle.bits.proofs.Arms.{at-arm, told}
+use Rattle.guest.specs.declared.injection.Injection.{Injection}
+use Rattle.guest.specs.declared.state.FaultRegisters.{FaultRegisters}
+use Rattle.guest.specs.declared.report.Report.{Report}
+use Rattle.guest.specs.Inner.{reportOf}
+use Rattle.guest.proofs.report.report_of.Statement.{statement}
 
--- the call's answer r, at the encoding e that the call before it gave
-worded : (t a : ℕ) {r : Report} {e x : Encoding} {i j : Injection} → r ≡ wordsOf e a → e ≡ x → wordsOf x a ≡ reportOf j t → i ≡ j → r ≡ reportOf i t
-worded t a p q s d = p ∙ ap (λ (e : Encoding). wordsOf e a) q ∙ s ∙ told (λ (i : Injection). reportOf i t) d
+at : (old : FaultRegisters) (ttbcr : ℕ) {i j : Injection} → i ≡ j → reportOf j old ttbcr ≡ reportOf i old ttbcr
+at old ttbcr = told (λ (i : Injection). reportOf i old ttbcr)
+
+called : (old : FaultRegisters) (ttbcr : ℕ) {i j : Injection} {r : Report} → r ≡ reportOf j old ttbcr → i ≡ j → r ≡ reportOf i old ttbcr
+called old ttbcr = at-arm (λ (i : Injection). reportOf i old ttbcr)
 
 enum-told : tie.Need-enum-told
 enum-told c = search needs
@@ -26,35 +28,29 @@ enum-told-3 c = search needs
 enum-known-what : tie.Need-enum-known-what
 enum-known-what c = search needs
 
-ifsr-word-requires : tie.Need-ifsr-word-requires
-ifsr-word-requires c κs = search needs
-
-words-of-requires : tie.Need-words-of-requires
-words-of-requires c κs = search needs
+fetch-report-requires : tie.Need-fetch-report-requires
+fetch-report-requires c κs = search needs
 
 enum-known-what-2 : tie.Need-enum-known-what-2
 enum-known-what-2 c = search needs
 
-dfsr-word-requires : tie.Need-dfsr-word-requires
-dfsr-word-requires c κs = search needs
-
-words-of-requires-2 : tie.Need-words-of-requires-2
-words-of-requires-2 c κs = search needs
+access-report-requires : tie.Need-access-report-requires
+access-report-requires c κs = search needs
 
 returns : tie.Need-returns
-returns c = search needs
+returns c = at (c .before .before .args .old) (c .before .before .args .ttbcr) (c .enum-told .given .1)
 
 returns-2 : tie.Need-returns-2
-returns-2 c = search needs
+returns-2 c = at (c .before .before .args .old) (c .before .before .args .ttbcr) (c .enum-told2 .given .1)
 
 returns-3 : tie.Need-returns-3
-returns-3 c = search needs
+returns-3 c = at (c .before .before .args .old) (c .before .before .args .ttbcr) (c .enum-told3 .given .1)
 
 returns-4 : tie.Need-returns-4
-returns-4 c = worded (c .before .before .before .before .before .args .ttbcr) _ (c .words-of .ensures) (c .before .ifsr-word .ensures) refl (c .before .before .before .what .given .1)
+returns-4 c = called (c .before .before .before .before .args .old) (c .before .before .before .before .args .ttbcr) (c .fetch-report .ensures) (c .before .before .what .given .1)
 
 returns-5 : tie.Need-returns-5
-returns-5 c = worded (c .before .before .before .before .before .args .ttbcr) _ (c .words-of2 .ensures) (c .before .dfsr-word .ensures) refl (c .before .before .before .what2 .given .1)
+returns-5 c = called (c .before .before .before .before .args .old) (c .before .before .before .before .args .ttbcr) (c .access-report .ensures) (c .before .before .what2 .given .1)
 
 pub report-of-spec : {M : Type 1} → statement M
 report-of-spec =
@@ -64,11 +60,9 @@ report-of-spec =
     enum-told-2
     enum-told-3
     enum-known-what
-    ifsr-word-requires
-    words-of-requires
+    fetch-report-requires
     enum-known-what-2
-    dfsr-word-requires
-    words-of-requires-2
+    access-report-requires
     returns
     returns-2
     returns-3

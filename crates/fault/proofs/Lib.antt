@@ -1,0 +1,2 @@
+-- The laws of the fault status words.
+pub mod Levels

@@ -1,0 +1,67 @@
+-- The words of DFSR and IFSR (01, 'Guest state and the five injections', the table of faults).
+use Prim.Native.Nat.{ℕ, _+_, _*_, _^_}
+use mathlib.Core.Bool.{Bool, true, false, cond}
+use lib.Dec.{eqb}
+use Rattle.fault.specs.declared.Fault.{Fault}
+use Rattle.fault.specs.declared.Fault.the-variants.{External, Translation, AccessFlag, Permission, Alignment}
+use Rattle.fault.specs.declared.Encoding.{Encoding}
+use Rattle.fault.specs.declared.Encoding.the-variants.{Code, Unwritable}
+use Rattle.fault.specs.declared.Row.{Row}
+use Rattle.bits.specs.Field.{fieldOf, bitOf}
+
+-- the code of a level: those of levels 1 and 2, and what stands at level 3; no other level has one
+unfoldable pub byLevel : ℕ → ℕ → ℕ → Encoding → Encoding
+byLevel level first second third =
+    cond (eqb level 1) (Code first) (cond (eqb level 2) (Code second) (cond (eqb level 3) third Unwritable))
+
+-- the table: FS of the short format, which has no level 3, and STATUS of the long
+abbrev pub faultRow : Fault → Row
+faultRow External = record { short = Code 0b01000; long = Code 0b010000 }
+faultRow (Translation l) = record { short = byLevel l 0b00101 0b00111 Unwritable; long = byLevel l 0b000101 0b000110 (Code 0b000111) }
+faultRow (AccessFlag l) = record { short = byLevel l 0b00011 0b00110 Unwritable; long = byLevel l 0b001001 0b001010 (Code 0b001011) }
+faultRow (Permission l) = record { short = byLevel l 0b01101 0b01111 Unwritable; long = byLevel l 0b001101 0b001110 (Code 0b001111) }
+faultRow Alignment = record { short = Code 0b00001; long = Code 0b100001 }
+
+abbrev pub faultCode : Fault → Bool → Encoding
+faultCode f true = faultRow f .long
+faultCode f false = faultRow f .short
+
+-- long: bit 9 set, STATUS in bits 5:0; short: FS 3:0 in bits 3:0, FS bit 4 in bit 10
+abbrev pub statusWord : ℕ → Bool → ℕ
+statusWord status true = 2 ^ 9 + fieldOf status 5 0
+statusWord fs false = fieldOf fs 4 4 * 2 ^ 10 + fieldOf fs 3 0
+
+-- an encoding, with its word changed
+abbrev pub onCode : (ℕ → ℕ) → Encoding → Encoding
+onCode f (Code c) = Code (f c)
+onCode f Unwritable = Unwritable
+
+-- TTBCR bit 31 chooses the long format
+unfoldable pub faultStatus : Fault → ℕ → Encoding
+faultStatus f ttbcr = onCode (λ c. statusWord c (bitOf ttbcr 31)) (faultCode f (bitOf ttbcr 31))
+
+-- an alignment fault is for data only
+abbrev pub isAlignment : Fault → Bool
+isAlignment External = false
+isAlignment (Translation l) = false
+isAlignment (AccessFlag l) = false
+isAlignment (Permission l) = false
+isAlignment Alignment = true
+
+-- IFSR of a prefetch abort: the fault, and TTBCR
+abbrev pub ifsrWord : Fault → ℕ → Encoding
+ifsrWord f ttbcr = cond (isAlignment f) Unwritable (faultStatus f ttbcr)
+
+-- a write sets bit 11
+abbrev pub writeBit : Bool → ℕ
+writeBit true = 2 ^ 11
+writeBit false = 0
+
+-- DFSR of a data abort: the fault, whether the access was a write, and TTBCR
+unfoldable pub dfsrWord : Fault → Bool → ℕ → Encoding
+dfsrWord f write ttbcr = onCode (λ w. writeBit write + w) (faultStatus f ttbcr)
+
+-- a fault that can be written in its register, in the format that TTBCR chooses
+abbrev pub isCode : Encoding → Bool
+isCode (Code w) = true
+isCode Unwritable = false

@@ -1,0 +1,33 @@
+-- Inner contracts, which nobody has to believe: what an injection does is settled by `injected` (Inject.antt) alone.
+use Prim.Native.Nat.{ℕ, _^_}
+use mathlib.Core.Bool.{cond}
+use lib.Dec.{ltb}
+use Rattle.fault.specs.declared.Encoding.{Encoding}
+use Rattle.fault.specs.declared.Encoding.the-variants.{Code, Unwritable}
+use Rattle.fault.specs.Fault.{ifsrWord, dfsrWord}
+use Rattle.guest.specs.declared.state.FaultRegisters.{FaultRegisters}
+use Rattle.guest.specs.declared.injection.Fetch.{Fetch}
+use Rattle.guest.specs.declared.injection.Access.{Access}
+use Rattle.guest.specs.declared.injection.Injection.{Injection}
+use Rattle.guest.specs.declared.injection.Injection.the-variants.{UndefinedAt, UndefinedAfter, SupervisorCall, PrefetchAbort, DataAbort}
+use Rattle.guest.specs.declared.report.Report.{Report}
+use Rattle.guest.specs.declared.report.Report.the-variants.{Registers, NoStatus, NoAddress}
+use Rattle.guest.specs.Inject.{fetchWrites, accessWrites}
+
+-- the fault registers that an abort makes, where its status can be written and then its address fits
+abbrev pub reportBy : (ℕ → ℕ → FaultRegisters) → Encoding → ℕ → Report
+reportBy writes (Code status) address = cond (ltb address (2 ^ 32)) (Registers (writes status address)) NoAddress
+reportBy writes Unwritable address = NoStatus
+
+abbrev pub fetchReport : Fetch → FaultRegisters → ℕ → Report
+fetchReport f old ttbcr = reportBy (fetchWrites old) (ifsrWord (f .fault) ttbcr) (f .address)
+
+abbrev pub accessReport : Access → FaultRegisters → ℕ → Report
+accessReport a old ttbcr = reportBy (accessWrites old) (dfsrWord (a .fault) (a .write) ttbcr) (a .address)
+
+abbrev pub reportOf : Injection → FaultRegisters → ℕ → Report
+reportOf UndefinedAt old ttbcr = Registers old
+reportOf UndefinedAfter old ttbcr = Registers old
+reportOf SupervisorCall old ttbcr = Registers old
+reportOf (PrefetchAbort f) old ttbcr = fetchReport f old ttbcr
+reportOf (DataAbort a) old ttbcr = accessReport a old ttbcr

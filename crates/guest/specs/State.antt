@@ -1,0 +1,11 @@
+-- A guest's state that changes (01, 'Guest state and the five injections'). Its fields are listed here once.
+use Prim.Native.Nat.{ℕ}
+use mathlib.Core.List.{List}
+use Rattle.guest.specs.declared.state.Saved.{Saved}
+use Rattle.guest.specs.declared.state.FaultRegisters.{FaultRegisters}
+use Rattle.guest.specs.declared.state.Guest.{Guest}
+
+-- the state with these registers, PC, status word, saved status words and fault registers; the rest stays
+abbrev pub changed : Guest → List ℕ → ℕ → ℕ → Saved → FaultRegisters → Guest
+changed s regs pc status saved faults =
+    record { regs = regs; pc = pc; status = status; saved = saved; faults = faults; sctlr = s .sctlr; vbar = s .vbar; ttbcr = s .ttbcr }

@@ -1,0 +1,4 @@
+-- Lemmas that several proofs cite, and the laws of the new status word.
+pub mod Masks
+pub mod Fields
+pub mod Again

@@ -1,0 +1,57 @@
+-- `status::entry_status` meets its contract: each mask is a field in its place, and joined from the top down the fields add up.
+use mathlib.Core.Path.{_≡_, refl}
+use mathlib.Core.Bool.{Bool}
+use Prim.Native.Nat.{ℕ, _*_, _/_, _%_, _^_}
+use native.Mathlib.Omega.{arith}
+use lib.Bits.{bitAnd, bitOr, and-high}
+use borrow.Author.Needs.{needs}
+use Rattle.status.specs.declared.Mode.{Mode}
+use Rattle.status.specs.Mode.{modeNumber}
+use Rattle.status.specs.Entry.{entryA, entryStatus}
+use Rattle.status.proofs.Masks.{or-next}
+use Rattle.status.proofs.Fields.{a-bit, mode-bits}
+use Rattle.status.proofs.entry_status.Statement.{statement}
+use Rattle.status.proofs.entry_status.Tie as tie
+
+module _ (m : Mode) (set : Bool) (old sctlr : ℕ) where
+  e-bit : bitAnd sctlr 0x0200_0000 / 2 ^ 16 ≡ sctlr / 2 ^ 25 % 2 * 2 ^ 9
+  e-bit = let e : bitAnd sctlr 0x0200_0000 ≡ sctlr / 2 ^ 25 % 2 * 2 ^ 25 = and-high sctlr 1 25 in omega arith
+
+  t-bit : bitAnd sctlr 0x4000_0000 / 2 ^ 25 ≡ sctlr / 2 ^ 30 % 2 * 2 ^ 5
+  t-bit = let e : bitAnd sctlr 0x4000_0000 ≡ sctlr / 2 ^ 30 % 2 * 2 ^ 30 = and-high sctlr 1 30 in omega arith
+
+  -- the code's word, with its two calls' answers
+  joined : {a n : ℕ} → a ≡ entryA set old * 2 ^ 8 → n ≡ modeNumber m
+      → bitOr (bitOr (bitOr (bitOr (bitOr (bitOr (bitOr (bitOr (bitAnd old 0xF800_0000) (bitAnd old 0x01E0_0000)) (bitAnd old 0x000F_0000)) (bitAnd sctlr 0x0200_0000 / 2 ^ 16)) a) 0x80) (bitAnd old 0x40)) (bitAnd sctlr 0x4000_0000 / 2 ^ 25)) n
+      ≡ entryStatus m set old sctlr
+  unfolding entryStatus
+  joined p q =
+      let ha = a-bit set old in
+      let hm = mode-bits m in
+      or-next 5
+      (or-next 6
+      (or-next 7
+      (or-next 8
+      (or-next 9
+      (or-next 16
+      (or-next 21
+      (or-next 27 (and-high old 5 27) (and-high old 4 21) (omega arith) (omega arith))
+      (and-high old 4 16) (omega arith) (omega arith))
+      e-bit (omega arith) (omega arith))
+      p (omega arith) (omega arith))
+      refl (omega arith) (omega arith))
+      (and-high old 1 6) (omega arith) (omega arith))
+      t-bit (omega arith) (omega arith))
+      q (omega arith) (omega arith)
+
+entry-a-requires : tie.Need-entry-a-requires
+entry-a-requires c κs = search needs
+
+mode-number-requires : tie.Need-mode-number-requires
+mode-number-requires c κs = search needs
+
+returns : tie.Need-returns
+returns c = joined _ _ _ _ (c .before .entry-a .ensures) (c .mode-number .ensures)
+
+pub entry-status-spec : {M : Type 1} → statement M
+entry-status-spec = tie.close (tie.spec entry-a-requires mode-number-requires returns)
