@@ -7,14 +7,17 @@ use syndrome::Esr;
 use trap::Both;
 use trap::Far;
 use trap::Hpfar;
+use trap::Trap;
+
+fn put_both(out: &mut [u8], at: usize, first: Trap, second: Trap) -> usize {
+    let taken = out::first(out, at, 0);
+    let end = put(out, taken, first);
+    put(out, end, second)
+}
 
 fn shown(out: &mut [u8], at: usize, answer: Both) -> usize {
     match answer {
-        Both::Shown(first, second) => {
-            let taken = out::first(out, at, 0);
-            let end = put(out, taken, first);
-            put(out, end, second)
-        }
+        Both::Shown(first, second) => put_both(out, at, first, second),
         Both::Refused(refusal) => refused(out, at, refusal),
     }
 }

@@ -3,6 +3,9 @@ use super::out;
 use super::record;
 use super::row;
 use syndrome::Esr;
+use syndrome::Record;
+use trap::Abort;
+use trap::Addressed;
 use trap::Answer;
 use trap::Far;
 use trap::Hpfar;
@@ -35,29 +38,40 @@ fn put_intermediate(out: &mut [u8], at: usize, address: IntermediateAddress) -> 
     }
 }
 
+fn put_abort(out: &mut [u8], at: usize, a: Abort) -> usize {
+    let syndrome = a.syndrome;
+    let address = a.address;
+    let intermediate = a.intermediate;
+    let known = record::put(out, at, syndrome);
+    let end = put_virtual(out, known, address);
+    put_intermediate(out, end, intermediate)
+}
+
+fn put_addressed(out: &mut [u8], at: usize, a: Addressed) -> usize {
+    let syndrome = a.syndrome;
+    let known = record::put(out, at, syndrome);
+    let fields = [1, a.address, 0];
+    out::numbers(out, known, &fields)
+}
+
+fn put_plain(out: &mut [u8], at: usize, r: Record) -> usize {
+    let known = record::put(out, at, r);
+    let fields = [0, 0];
+    out::numbers(out, known, &fields)
+}
+
 // A trap's record, its virtual address and its intermediate address.
 pub fn put(out: &mut [u8], at: usize, t: Trap) -> usize {
     match t {
-        Trap::Abort(a) => {
-            let syndrome = a.syndrome;
-            let address = a.address;
-            let intermediate = a.intermediate;
-            let known = record::put(out, at, syndrome);
-            let end = put_virtual(out, known, address);
-            put_intermediate(out, end, intermediate)
-        }
-        Trap::Addressed(a) => {
-            let syndrome = a.syndrome;
-            let known = record::put(out, at, syndrome);
-            let fields = [1, a.address, 0];
-            out::numbers(out, known, &fields)
-        }
-        Trap::Plain(r) => {
-            let known = record::put(out, at, r);
-            let fields = [0, 0];
-            out::numbers(out, known, &fields)
-        }
+        Trap::Abort(a) => put_abort(out, at, a),
+        Trap::Addressed(a) => put_addressed(out, at, a),
+        Trap::Plain(r) => put_plain(out, at, r),
     }
+}
+
+fn put_shown(out: &mut [u8], at: usize, t: Trap) -> usize {
+    let taken = out::first(out, at, 0);
+    put(out, taken, t)
 }
 
 pub fn refused(out: &mut [u8], at: usize, refusal: TrapRefusal) -> usize {
@@ -68,10 +82,7 @@ pub fn refused(out: &mut [u8], at: usize, refusal: TrapRefusal) -> usize {
 
 fn shown(out: &mut [u8], at: usize, answer: Answer) -> usize {
     match answer {
-        Answer::Shown(t) => {
-            let taken = out::first(out, at, 0);
-            put(out, taken, t)
-        }
+        Answer::Shown(t) => put_shown(out, at, t),
         Answer::Refused(refusal) => refused(out, at, refusal),
     }
 }
