@@ -66,19 +66,23 @@ fn single_bits() -> Vec<Call> {
     questions
 }
 
-/// Fault codes in every edition. The other edges in one edition each: where
-/// some editions have the word, the answer is a refusal with all of them, or
-/// the record.
+/// Fault codes in every edition. The fields that depend on them without and
+/// with RAS: one of the two lacks what not every edition has, and its answer
+/// names those that have it. The other edges by turns.
 fn records_at_the_edges() -> Vec<Call> {
     let mut questions = Vec::new();
     for record in fault_codes() {
         let word = word(&record);
         questions.extend((0..LONG.editions).map(|edition| Call::Read { edition, word }));
     }
+    for record in fault_fields() {
+        let word = word(&record);
+        questions.extend([0, 1].map(|edition| Call::Read { edition, word }));
+    }
     let mut editions = Turn::over(LONG.editions);
     let limits = samples().flat_map(|sample| field_limits(&sample));
     let tied = tied_fields().into_iter().chain(aborts::tied_fields());
-    for record in limits.chain(fault_fields()).chain(tied) {
+    for record in limits.chain(tied) {
         questions.push(Call::Read { edition: editions.next(), word: word(&record) });
     }
     questions

@@ -67,12 +67,18 @@ fn il_before_fields() -> Vec<Call> {
 
 /// As in reading, and with fields that are too large.
 fn records_at_the_edges() -> Vec<Call> {
+    let mut questions = Vec::new();
+    for record in fault_codes().into_iter().chain(fault_fields()) {
+        let write = |edition| Call::Write { edition, record: record.clone() };
+        questions.extend([0, 1].map(write));
+    }
     let mut editions = Turn::over(LONG.editions);
     let limits = samples().flat_map(|sample| field_limits(&sample));
     let large = samples().flat_map(|sample| fields_too_large(&sample));
     let tied = tied_fields().into_iter().chain(aborts::tied_fields());
-    let records = limits.chain(large).chain(fault_codes()).chain(fault_fields()).chain(tied);
-    records.map(|record| Call::Write { edition: editions.next(), record }).collect()
+    let records = limits.chain(large).chain(tied);
+    questions.extend(records.map(|record| Call::Write { edition: editions.next(), record }));
+    questions
 }
 
 /// Two different editions: every fault code from one edition to the next and
