@@ -35,7 +35,7 @@ const USAGE: &str = "\
 usage: second rows DIR
        second check DIR
        second programs DIR
-       second answer
+       second answer NAME
        second compare [FIRST LAST [STRIDE]]
        second bench
 The last two need the feature `compare`.";
@@ -61,13 +61,11 @@ fn usage() -> io::Error {
 fn run(words: &[&str]) -> io::Result<bool> {
     match words {
         ["rows", directory] => rows::write(Path::new(directory)),
-        ["check", directory] => rows::check(Path::new(directory)),
-        ["answer"] => {
-            let mut input = Vec::new();
-            io::Read::read_to_end(&mut io::stdin(), &mut input)?;
-            io::Write::write_all(&mut io::stdout(), &call::answers(&input))?;
-            Ok(true)
+        ["check", directory] => {
+            let directory = Path::new(directory);
+            Ok(rows::check(directory)? & programs::check(directory)?)
         }
+        ["answer", name] => programs::answer(name),
         ["programs", directory] => programs::run(Path::new(directory)),
         #[cfg(feature = "compare")]
         ["compare", range @ ..] => compare_range(range),

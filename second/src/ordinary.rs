@@ -10,7 +10,8 @@ const LPA2: u32 = 0b1100_1100;
 const HAFDBS: u32 = 0b1111_0000;
 const ALL: u32 = 0b1111_1111;
 
-/// A record as this reader holds it.
+/// A record as this reader holds it. Nobody reads it: it is built since the
+/// proved reader builds one too.
 #[derive(Clone, Copy, Debug)]
 #[allow(dead_code)]
 pub enum Record {

@@ -7,6 +7,7 @@ use crate::catalogue::Catalogue;
 use crate::long::LONG;
 use crate::random::Random;
 use crate::syndrome::{read, word_to_look_up};
+use std::fs;
 use std::io::{self, Read, Write};
 use std::path::Path;
 use std::process::{Command, Stdio};
@@ -49,6 +50,31 @@ pub fn run(directory: &Path) -> io::Result<bool> {
             }
         }
         println!("{}: {}", program.name, if all_same { "same" } else { "DIFFERENT" });
+    }
+    Ok(all_same)
+}
+
+/// Writes what a program must write for this program's standard input.
+pub fn answer(name: &str) -> io::Result<bool> {
+    let program = PROGRAMS.iter().find(|program| program.name == name);
+    let program = program.ok_or_else(|| io::Error::other(format!("no program {name}")))?;
+    let mut input = Vec::new();
+    io::stdin().read_to_end(&mut input)?;
+    io::stdout().write_all(&(program.answers)(&input))?;
+    Ok(true)
+}
+
+/// Whether the stored output of each program, `NAME/stdout`, is this program's
+/// answer to its stored input.
+pub fn check(directory: &Path) -> io::Result<bool> {
+    let mut all_same = true;
+    for program in &PROGRAMS {
+        let folder = directory.join(program.name);
+        let input = fs::read(folder.join("stdin"))?;
+        let same = fs::read(folder.join("stdout"))? == (program.answers)(&input);
+        let verdict = if same { "same" } else { "DIFFERENT" };
+        println!("{}: stored answers {verdict}", program.name);
+        all_same &= same;
     }
     Ok(all_same)
 }

@@ -72,6 +72,9 @@ fn report_failures(failures: &[String]) -> bool {
     false
 }
 
+/// The folder of the program among the crates.
+const FOLDER: &str = "checker";
+
 /// Writes the files; true when all cases of the paper came out right.
 pub fn write(directory: &Path) -> io::Result<bool> {
     let files = match files() {
@@ -79,8 +82,8 @@ pub fn write(directory: &Path) -> io::Result<bool> {
         Err(failures) => return Ok(report_failures(&failures)),
     };
     for File { name, bytes } in files {
-        fs::write(directory.join(name), &bytes)?;
-        println!("{name}: {} lines, {} bytes", count_lines(&bytes), bytes.len());
+        fs::write(directory.join(FOLDER).join(name), &bytes)?;
+        println!("{FOLDER}/{name}: {} lines, {} bytes", count_lines(&bytes), bytes.len());
     }
     Ok(true)
 }
@@ -94,9 +97,10 @@ pub fn check(directory: &Path) -> io::Result<bool> {
     println!("cases of the paper: same");
     let mut all_same = true;
     for File { name, bytes } in files {
-        let same = fs::read(directory.join(name)).is_ok_and(|stored| stored == bytes);
+        let stored = fs::read(directory.join(FOLDER).join(name));
+        let same = stored.is_ok_and(|stored| stored == bytes);
         let verdict = if same { "same" } else { "DIFFERENT OR MISSING" };
-        println!("{name}: {} lines, {verdict}", count_lines(&bytes));
+        println!("{FOLDER}/{name}: {} lines, {verdict}", count_lines(&bytes));
         all_same &= same;
     }
     Ok(all_same)

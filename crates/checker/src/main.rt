@@ -99,8 +99,8 @@ fn answers(out: &mut [u8], numbers: &mut [u64], chunk: &[u8], line: Line) -> Pro
     p
 }
 
-// Writes the first bytes of a buffer. A chunk of 512 bytes has room in it for all of its answers: the shortest row of each call is a fifth
-// as long as its longest answer, and `no row` has 7 bytes with its newline.
+// Writes the first bytes of a buffer. 65,536 bytes have room for all answers to a chunk: its 512 bytes end at most 64 rows, which have 8
+// bytes or more, no answer to a row has more than 512 bytes, and every other line is answered by 7.
 fn flush(out: &[u8], end: usize) -> bool {
     if end <= out.len() {
         io::write_all(STDOUT_FILENO, &out[..end])
