@@ -98,19 +98,24 @@ impl Pieces {
     }
 }
 
-/// What a program writes for an input.
+/// What a program writes for an input. One that stops reading early has
+/// written what it has written.
 fn feed(path: &Path, input: &[u8], pieces: Pieces) -> io::Result<Vec<u8>> {
     let mut child = Command::new(path).stdin(Stdio::piped()).stdout(Stdio::piped()).spawn()?;
+    let id = child.id();
     let mut stdin = child.stdin.take().expect("a pipe");
     let mut stdout = child.stdout.take().expect("a pipe");
     let mut written = Vec::new();
     thread::scope(|scope| {
         let writer = scope.spawn(move || match pieces {
             Pieces::AtOnce => stdin.write_all(input),
-            Pieces::Few => write_few(&mut stdin, input),
+            Pieces::Few => write_few(&mut stdin, input, id),
         });
         stdout.read_to_end(&mut written)?;
-        writer.join().expect("a writer that ends")
+        match writer.join().expect("a writer that ends") {
+            Err(error) if error.kind() != io::ErrorKind::BrokenPipe => Err(error),
+            _ => Ok(()),
+        }
     })?;
     let status = child.wait()?;
     match status.success() {
@@ -119,19 +124,34 @@ fn feed(path: &Path, input: &[u8], pieces: Pieces) -> io::Result<Vec<u8>> {
     }
 }
 
-/// Pieces of one to seven bytes, each with time to be read alone.
-fn write_few(pipe: &mut impl Write, input: &[u8]) -> io::Result<()> {
+/// Pieces of one to seven bytes, each when the program has read the one before
+/// and waits for more.
+fn write_few(pipe: &mut impl Write, input: &[u8], id: u32) -> io::Result<()> {
     let mut rest = input;
     for length in (1..=7).cycle() {
         if rest.is_empty() {
             return Ok(());
         }
         let (piece, after) = rest.split_at(length.min(rest.len()));
+        wait_until_asleep(id)?;
         pipe.write_all(piece)?;
-        thread::sleep(Duration::from_millis(1));
         rest = after;
     }
     Ok(())
+}
+
+/// Waits until a process sleeps, as it does in a read of an empty pipe, or has
+/// ended. Its state stands behind its name in parentheses.
+fn wait_until_asleep(id: u32) -> io::Result<()> {
+    for _ in 0..20_000 {
+        let Ok(stat) = fs::read_to_string(format!("/proc/{id}/stat")) else { break };
+        let state = stat.rsplit(')').next().and_then(|rest| rest.trim_start().chars().next());
+        if matches!(state, Some('S' | 'Z' | 'X')) {
+            return Ok(());
+        }
+        thread::sleep(Duration::from_micros(100));
+    }
+    Err(io::Error::other("the program doesn't come to read"))
 }
 
 /// Document 01: one digit for the edition, a space and 16 hexadecimal digits.
