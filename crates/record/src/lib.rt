@@ -1,11 +1,10 @@
 // Records of syndrome words: their kinds, the layout of each, and what a word's bits hold. Nothing is judged here.
-mod address;
 mod class;
 mod join;
 mod kinds;
 mod split;
+mod told;
 
-pub use address::addresses;
 pub use class::head;
 pub use class::is_class;
 pub use join::joined;
@@ -24,3 +23,4 @@ pub use kinds::Simd;
 pub use kinds::Smc;
 pub use kinds::Wfx;
 pub use split::record_at;
+pub use told::addresses;

@@ -1,4 +1,4 @@
--- `record::address::addresses` meets its contract: each arm tells what its kind's fields say.
+-- `record::told::addresses` meets its contract: each arm tells what its kind's fields say.
 -- Assumes nothing.
 use borrow.Author.Needs.{needs}
 use mathlib.Core.Path.{refl, sym, ap}
@@ -7,8 +7,8 @@ use borrow.Author.Tests.{ne-eqb}
 use Rattle.bits.proofs.Arms.{at-arm}
 use Rattle.record.specs.Addresses.{addressesOf}
 use Rattle.record.specs.declared.kinds.Addresses.{Addresses}
-use Rattle.record.proofs.address.addresses.Statement.{statement}
-use Rattle.record.proofs.address.addresses.Tie as tie
+use Rattle.record.proofs.told.addresses.Statement.{statement}
+use Rattle.record.proofs.told.addresses.Tie as tie
 
 enum-known-r : tie.Need-enum-known-r
 enum-known-r c = search needs
