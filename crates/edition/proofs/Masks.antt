@@ -137,6 +137,9 @@ unfolding maskOf
 either-mask = mask-either editions
 
 -- nothing that no edition has is in the mask
+pub mask-empty : (n : ℕ) (test : ℕ → Bool) → ((e : ℕ) → test e ≡ false) → 0 ≡ maskBelow n test
+mask-empty n test none = sym (mask-same n test (λ e. false) (λ e h. none e) ∙ mask-none n)
+
 pub empty-mask : (test : ℕ → Bool) → ((e : ℕ) → test e ≡ false) → 0 ≡ maskOf test
 unfolding maskOf
-empty-mask test none = sym (mask-same editions test (λ e. false) (λ e h. none e) ∙ mask-none editions)
+empty-mask = mask-empty editions

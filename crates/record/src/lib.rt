@@ -1,13 +1,14 @@
 // Records of syndrome words: their kinds, the layout of each, and what a word's bits hold. Nothing is judged here.
 mod address;
 mod class;
-mod join;
+pub mod join;
 mod kinds;
-mod split;
+pub mod split;
 
 pub use address::addresses;
 pub use class::head;
 pub use class::is_class;
+pub use class::without_isv;
 pub use join::joined;
 pub use kinds::Addresses;
 pub use kinds::Call;
