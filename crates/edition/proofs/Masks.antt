@@ -7,10 +7,11 @@ use Prim.Native.Nat.{ℕ, zero, suc, _+_, _-_, _*_, _/_, _%_, _^_, _≤_, _<_}
 use native.Mathlib.Nat.{zero-mul, eq-or-lt-of-le, le-of-suc-le-suc, le-refl, lt-of-lt-of-le, mul-add-mod-self-right, mod-eq-of-lt, div-eq-of-lt, zero-mod, not-suc-le-zero}
 use native.Mathlib.Numerals.{one-add}
 use native.Mathlib.Omega.{arith}
+use borrow.Author.Tests.{lt-ltb}
 use lib.Arith.{digits-lt}
 use lib.Bits.{bitAnd, and-block}
 use lib.Count.{ones, onesIn, ones-cat}
-use lib.Dec.{eqb, lit<}
+use lib.Dec.{eqb, ltb, lit<}
 use lib.Pow.{pow-pos, pow-mono, pow-add, high, field}
 use Rattle.bits.specs.Field.{widthOf, fieldOf, bitOf, digit}
 use Rattle.bits.proofs.Powers.{shift-by-way}
@@ -127,6 +128,11 @@ mask-either n true b p = refl
 mask-either n false true p = mask-same n (λ e. p e && true) p (λ e h. and-true (p e))
 mask-either n false false p = mask-same n (λ e. p e && false) (λ e. false) (λ e h. and-false (p e)) ∙ mask-none n
 
+-- a rule of the edition, kept where a test holds, of the n editions alone
+pub mask-known : (n : ℕ) (b : Bool) (rule : ℕ → Bool) → cond b (maskBelow n rule) 0 ≡ maskBelow n (λ e. ltb e n && b && rule e)
+mask-known n b rule =
+    mask-when n b rule ∙ mask-same n (λ e. b && rule e) (λ e. ltb e n && b && rule e) (λ e h. ap (λ (t : Bool). t && b && rule e) (sym (lt-ltb e n h)))
+
 -- the same laws for the masks of the long form's editions
 pub both-masks : (p q : ℕ → Bool) → bitAnd (maskOf p) (maskOf q) ≡ maskOf (λ e. p e && q e)
 unfolding maskOf
@@ -137,6 +143,9 @@ unfolding maskOf
 either-mask = mask-either editions
 
 -- nothing that no edition has is in the mask
+pub mask-empty : (n : ℕ) (test : ℕ → Bool) → ((e : ℕ) → test e ≡ false) → 0 ≡ maskBelow n test
+mask-empty n test none = sym (mask-same n test (λ e. false) (λ e h. none e) ∙ mask-none n)
+
 pub empty-mask : (test : ℕ → Bool) → ((e : ℕ) → test e ≡ false) → 0 ≡ maskOf test
 unfolding maskOf
-empty-mask test none = sym (mask-same editions test (λ e. false) (λ e h. none e) ∙ mask-none editions)
+empty-mask = mask-empty editions

@@ -5,7 +5,7 @@ use mathlib.Core.Bool.{Bool, true, false, cond}
 use mathlib.Core.List.{List, [], _∷_}
 use Prim.Native.Nat.{ℕ}
 use borrow.Author.Tests.{ne-eqb}
-use lib.Dec.{eqb}
+use lib.Dec.{eqb, ltb}
 use Rattle.bits.specs.Decide.{Test, needs, decide, relabel}
 use Rattle.edition.specs.Mask.{maskBelow, countBelow}
 use Rattle.edition.specs.Judge.{refusalNumber, refusalMask, refusalCount}
@@ -14,6 +14,7 @@ use Rattle.edition.specs.declared.Refusal.the-variants.{UnknownEdition, UpperHa
 use Rattle.edition.proofs.Masks.{mask-ones}
 use Rattle.form.specs.Answer.{Answer, given, refused, numberIn, maskIn, countIn}
 use Rattle.form.specs.Call.{others, callTests, callOf, sixOnly}
+use Rattle.form.specs.Form.{readBack}
 use Rattle.form.proofs.Calls.{NotSix, Own, Ending, unknown-edition, own-test, other-editions, passed, ending}
 
 -- what is said of an answer is what is said of the first refusal, or of what is given
@@ -83,3 +84,37 @@ call-says shown number mask count says n test own e a ok =
       s .1 ∙ carries .0 ∙ ap (λ (k : ℕ). sixOnly k (maskBelow n test)) (sym (s .0)),
       s .2 ∙ carries .1 ∙ ap (λ (k : ℕ). sixOnly k (countBelow n test)) (sym (s .0)),
     )
+
+-- what the reader's edition makes of a record that some edition put out: its number by two tests, and with 6 alone the mask and the count
+module _ {R : Type 0} (n : ℕ) (has : ℕ → R → Bool) (reader : ℕ) (r : R) where
+  back-number : numberIn (readBack n has reader r) ≡ cond (ltb reader n) (cond (has reader r) 0 6) 1
+  back-number = by (ltb reader n) (has reader r)
+    where
+      by : (k h : Bool) → numberIn (cond k (cond h (given r) (refused (others n (λ x. has x r)))) (refused UnknownEdition)) ≡ cond k (cond h 0 6) 1
+      by true true = refl
+      by true false = refl
+      by false h = refl
+
+  abbrev Names : Answer R → Type 0
+  Names a =
+      (maskIn a ≡ sixOnly (numberIn a) (maskBelow n (λ x. has x r))) × (countIn a ≡ sixOnly (numberIn a) (countBelow n (λ x. has x r)))
+
+  back-names : Names (readBack n has reader r)
+  back-names = by (ltb reader n) (has reader r)
+    where
+      by : (k h : Bool) → Names (cond k (cond h (given r) (refused (others n (λ x. has x r)))) (refused UnknownEdition))
+      by true true = (refl, refl)
+      by true false = (refl, mask-ones n (λ x. has x r))
+      by false h = (refl, refl)
+
+  -- the same of an answer of code
+  pub back-says : {X : Type 0} (shown : Answer R → X) (number mask count : X → ℕ) → Says shown number mask count
+      → (number (shown (readBack n has reader r)) ≡ cond (ltb reader n) (cond (has reader r) 0 6) 1)
+      × (mask (shown (readBack n has reader r)) ≡ sixOnly (number (shown (readBack n has reader r))) (maskBelow n (λ x. has x r)))
+      × (count (shown (readBack n has reader r)) ≡ sixOnly (number (shown (readBack n has reader r))) (countBelow n (λ x. has x r)))
+  back-says shown number mask count says =
+      let s = says (readBack n has reader r) in (
+        s .0 ∙ back-number,
+        s .1 ∙ back-names .0 ∙ ap (λ (k : ℕ). sixOnly k (maskBelow n (λ x. has x r))) (sym (s .0)),
+        s .2 ∙ back-names .1 ∙ ap (λ (k : ℕ). sixOnly k (countBelow n (λ x. has x r))) (sym (s .0)),
+      )

@@ -26,10 +26,20 @@ passedRule ccknownpass cv cond = ccknownpass || not cv && eqb cond 0
 abbrev pub mmuFault : ℕ → Bool
 mmuFault code = leb code 0x0F || eqb code 0x29 || eqb code 0x2B
 
--- both aborts: FnV only with code 0x10, EA only with 0x10..0x1F, S1PTW only with an MMU fault
+-- EA only with codes 0x10..0x1F, S1PTW only with an MMU fault
+abbrev pub externalRule : Bool → ℕ → Bool
+externalRule ea code = implies ea (between 0x10 0x1F code)
+
+abbrev pub walkRule : Bool → ℕ → Bool
+walkRule s1ptw code = implies s1ptw (mmuFault code)
+
+-- an abort with an FnV field: FnV only with code 0x10, then EA and S1PTW
 abbrev pub abortRule : Bool → Bool → Bool → ℕ → Bool
-abortRule fnv ea s1ptw code =
-    implies fnv (eqb code 0x10) && implies ea (between 0x10 0x1F code) && implies s1ptw (mmuFault code)
+abortRule fnv ea s1ptw code = implies fnv (eqb code 0x10) && externalRule ea code && walkRule s1ptw code
+
+-- ISV 1 needs an MMU fault, or without RAS also a code of 0x13..0x17
+abbrev pub isvCode : Bool → Bool → ℕ → Bool
+isvCode ras isv code = implies isv (mmuFault code || not ras && between 0x13 0x17 code)
 
 -- SSE 1 needs SAS below 2 and WnR 0
 abbrev pub extensionRule : Bool → ℕ → Bool → Bool

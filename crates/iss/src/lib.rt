@@ -1,6 +1,7 @@
 // Rules of single fields of the ISS, which every form of a syndrome word shares.
 ghost use mathlib.Core.Path.{_≡_};
-ghost use Rattle.iss.specs.Rule.{conditionRule, addressingRule, passedRule, mmuFault, abortRule, extensionRule, maintenanceRule};
+ghost use Rattle.iss.specs.Rule.{conditionRule, addressingRule, passedRule, mmuFault, externalRule, walkRule, abortRule, extensionRule, maintenanceRule};
+ghost use Rattle.iss.specs.Il.{ilNeeded};
 
 // CV 1 with COND 1111 is no condition of a trapped instruction.
 pub fn condition_rule(cv: bool, cond: u32) -> bool
@@ -30,11 +31,25 @@ pub fn mmu_fault(code: u32) -> bool
     (code <= 0x0F) | (code == 0x29) | (code == 0x2B)
 }
 
-// What both aborts ask: FnV with a synchronous external abort, EA with an external abort, S1PTW with an MMU fault.
+// EA goes with an external abort.
+pub fn external_rule(ea: bool, code: u32) -> bool
+    ensures { λ yes. ⌜ yes ≡ externalRule ea code ⌝ }
+{
+    !ea | ((0x10 <= code) & (code <= 0x1F))
+}
+
+// S1PTW goes with an MMU fault.
+pub fn walk_rule(s1ptw: bool, code: u32) -> bool
+    ensures { λ yes. ⌜ yes ≡ walkRule s1ptw code ⌝ }
+{
+    !s1ptw | mmu_fault(code)
+}
+
+// An abort with an FnV field, which goes with a synchronous external abort.
 pub fn abort_rule(fnv: bool, ea: bool, s1ptw: bool, code: u32) -> bool
     ensures { λ yes. ⌜ yes ≡ abortRule fnv ea s1ptw code ⌝ }
 {
-    (!fnv | (code == 0x10)) & (!ea | ((0x10 <= code) & (code <= 0x1F))) & (!s1ptw | mmu_fault(code))
+    (!fnv | (code == 0x10)) & external_rule(ea, code) & walk_rule(s1ptw, code)
 }
 
 // Only a load of a byte or a halfword is sign-extended.
@@ -49,4 +64,11 @@ pub fn maintenance_rule(cm: bool, wnr: bool) -> bool
     ensures { λ yes. ⌜ yes ≡ maintenanceRule cm wnr ⌝ }
 {
     !cm | wnr
+}
+
+// Where IL must be 1 in every form.
+pub fn il_needed(class: u32, isv: bool) -> bool
+    ensures { λ yes. ⌜ yes ≡ ilNeeded class isv ⌝ }
+{
+    (class == 0x00) | (class == 0x0E) | (class == 0x20) | (class == 0x24) & !isv
 }

@@ -10,8 +10,12 @@ use Rattle.bits.specs.Inner.{joinedFrom}
 use Rattle.bits.proofs.Booleans.{one-of-two, one-of-three}
 use Rattle.bits.proofs.Fields.{AllBack, all-back, word-below, joined-word, flag-back}
 use Rattle.record.specs.Class.{isClass, headOf}
-use Rattle.record.specs.Fields.{fieldsOf, recordWord}
-use Rattle.record.specs.Split.{plainAt, mcrAt, mcrrAt, callAt, recordOf, recordAt}
+use Rattle.record.specs.Fields.{plainFields, wfxFields, callFields, smcFields, fieldsOf, recordWord}
+use Rattle.record.specs.Split.{plainAt, wfxAt, mcrAt, mcrrAt, callAt, smcAt, recordOf, recordAt}
+use Rattle.record.specs.declared.kinds.Plain.{Plain}
+use Rattle.record.specs.declared.kinds.Wfx.{Wfx}
+use Rattle.record.specs.declared.kinds.Call.{Call}
+use Rattle.record.specs.declared.kinds.Smc.{Smc}
 use Rattle.record.specs.declared.kinds.Record.{Record}
 
 -- every layout is in order, within 32 bits
@@ -28,26 +32,50 @@ fields-ordered (Record.InstructionAbort r) = tt
 fields-ordered (Record.DataAbort r) = tt
 
 module _ (w : ℕ) where
+  -- the kinds that the short form has too, at the bits of a word that holds their fields
+  pub plain-back : (r : Plain) → AllBack w (plainFields r) → plainAt (r .class) w ≡ r
+  plain-back r b =
+      λ i. record {
+        class = r .class;
+        il = flag-back w 25 (r .il) (b .1 .0) i;
+      }
+
+  pub wfx-back : (r : Wfx) → AllBack w (wfxFields r) → wfxAt w ≡ r
+  wfx-back r b =
+      λ i. record {
+        il = flag-back w 25 (r .il) (b .1 .0) i;
+        cv = flag-back w 24 (r .cv) (b .1 .1 .0) i;
+        cond = (b .1 .1 .1 .0) i;
+        ti = flag-back w 0 (r .ti) (b .1 .1 .1 .1 .0) i;
+      }
+
+  pub call-back : (r : Call) → AllBack w (callFields r) → callAt (r .class) w ≡ r
+  call-back r b =
+      λ i. record {
+        class = r .class;
+        il = flag-back w 25 (r .il) (b .1 .0) i;
+        imm16 = (b .1 .1 .0) i;
+      }
+
+  pub smc-back : (r : Smc) → AllBack w (smcFields r) → smcAt w ≡ r
+  smc-back r b =
+      λ i. record {
+        il = flag-back w 25 (r .il) (b .1 .0) i;
+        cv = flag-back w 24 (r .cv) (b .1 .1 .0) i;
+        cond = (b .1 .1 .1 .0) i;
+        ccknownpass = flag-back w 19 (r .ccknownpass) (b .1 .1 .1 .1 .0) i;
+      }
+
   -- each kind's record at the bits of a word that holds its fields
   at-bits : (r : Record) → headOf r .own ≡ true → AllBack w (fieldsOf r) → recordAt w ≡ r
   unfolding recordOf
   at-bits (Record.Plain r) own b =
       ap (λ (c : ℕ). recordOf c w) (b .0)
       ∙ one-of-three (r .class) 0x00 0x0E 0x22 (λ c. recordOf c w ≡ Record.Plain (plainAt c w)) refl refl refl own
-      ∙ ap Record.Plain
-      (λ i. record {
-        class = r .class;
-        il = flag-back w 25 (r .il) (b .1 .0) i;
-      })
+      ∙ ap Record.Plain (plain-back r b)
   at-bits (Record.Wfx r) own b =
       ap (λ (c : ℕ). recordOf c w) (b .0)
-      ∙ ap Record.Wfx
-      (λ i. record {
-        il = flag-back w 25 (r .il) (b .1 .0) i;
-        cv = flag-back w 24 (r .cv) (b .1 .1 .0) i;
-        cond = (b .1 .1 .1 .0) i;
-        ti = flag-back w 0 (r .ti) (b .1 .1 .1 .1 .0) i;
-      })
+      ∙ ap Record.Wfx (wfx-back r b)
   at-bits (Record.Mcr r) own b =
       ap (λ (c : ℕ). recordOf c w) (b .0)
       ∙ one-of-three (r .class) 0x03 0x05 0x08 (λ c. recordOf c w ≡ Record.Mcr (mcrAt c w)) refl refl refl own
@@ -103,21 +131,10 @@ module _ (w : ℕ) where
   at-bits (Record.Call r) own b =
       ap (λ (c : ℕ). recordOf c w) (b .0)
       ∙ one-of-two (r .class) 0x11 0x12 (λ c. recordOf c w ≡ Record.Call (callAt c w)) refl refl own
-      ∙ ap Record.Call
-      (λ i. record {
-        class = r .class;
-        il = flag-back w 25 (r .il) (b .1 .0) i;
-        imm16 = (b .1 .1 .0) i;
-      })
+      ∙ ap Record.Call (call-back r b)
   at-bits (Record.Smc r) own b =
       ap (λ (c : ℕ). recordOf c w) (b .0)
-      ∙ ap Record.Smc
-      (λ i. record {
-        il = flag-back w 25 (r .il) (b .1 .0) i;
-        cv = flag-back w 24 (r .cv) (b .1 .1 .0) i;
-        cond = (b .1 .1 .1 .0) i;
-        ccknownpass = flag-back w 19 (r .ccknownpass) (b .1 .1 .1 .1 .0) i;
-      })
+      ∙ ap Record.Smc (smc-back r b)
   at-bits (Record.InstructionAbort r) own b =
       ap (λ (c : ℕ). recordOf c w) (b .0)
       ∙ ap Record.InstructionAbort

@@ -50,7 +50,8 @@ pub fn is_class(class: u32) -> bool
         | (class == 0x24)
 }
 
-fn without_isv(class: u32, own: bool, il: bool) -> Head
+// The head of a record that isn't a data abort.
+pub fn without_isv(class: u32, own: bool, il: bool) -> Head
     ensures { λ h. ⌜ h ≡ withoutIsv class own il ⌝ }
 {
     Head {

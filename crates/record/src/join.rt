@@ -1,4 +1,4 @@
-// A record put together into a word, each field cut to its bits. Nothing is judged here.
+// A record put together into a word, each field cut to its bits. Nothing is judged here. The kinds without a register are the short form's too.
 ghost use mathlib.Core.Path.{_≡_};
 ghost use mathlib.Core.List.{[]};
 ghost use Rattle.bits.specs.Inner.{joinedFrom};
@@ -18,26 +18,26 @@ use bits::flag;
 use bits::place;
 
 // EC and IL.
-fn head_of(class: u32, il: bool) -> u64
+pub fn head_of(class: u32, il: bool) -> u64
     ensures { λ r. ⌜ r ≡ joinedFrom 0 (head class il []) ⌝ }
 {
     place(class, 31, 26) | flag(il, 25)
 }
 
 // EC, IL, CV and COND.
-fn conditional(class: u32, il: bool, cv: bool, cond: u32) -> u64
+pub fn conditional(class: u32, il: bool, cv: bool, cond: u32) -> u64
     ensures { λ r. ⌜ r ≡ joinedFrom 0 (head class il (condition cv cond [])) ⌝ }
 {
     head_of(class, il) | flag(cv, 24) | place(cond, 23, 20)
 }
 
-fn plain(r: Plain) -> u64
+pub fn plain(r: Plain) -> u64
     ensures { λ w. ⌜ w ≡ joinedFrom 0 (plainFields r) ⌝ }
 {
     head_of(r.class, r.il)
 }
 
-fn wfx(r: Wfx) -> u64
+pub fn wfx(r: Wfx) -> u64
     ensures { λ w. ⌜ w ≡ joinedFrom 0 (wfxFields r) ⌝ }
 {
     conditional(0x01, r.il, r.cv, r.cond) | flag(r.ti, 0)
@@ -83,13 +83,13 @@ fn simd(r: Simd) -> u64
     conditional(0x07, r.il, r.cv, r.cond)
 }
 
-fn call(r: Call) -> u64
+pub fn call(r: Call) -> u64
     ensures { λ w. ⌜ w ≡ joinedFrom 0 (callFields r) ⌝ }
 {
     head_of(r.class, r.il) | place(r.imm16, 15, 0)
 }
 
-fn smc(r: Smc) -> u64
+pub fn smc(r: Smc) -> u64
     ensures { λ w. ⌜ w ≡ joinedFrom 0 (smcFields r) ⌝ }
 {
     conditional(0x13, r.il, r.cv, r.cond) | flag(r.ccknownpass, 19)

@@ -1,12 +1,13 @@
 // Records of syndrome words: their kinds, the layout of each, and what a word's bits hold. Nothing is judged here.
 mod class;
-mod join;
+pub mod join;
 mod kinds;
-mod split;
+pub mod split;
 mod told;
 
 pub use class::head;
 pub use class::is_class;
+pub use class::without_isv;
 pub use join::joined;
 pub use kinds::Addresses;
 pub use kinds::Call;

@@ -1,4 +1,4 @@
-// A word taken apart by the layout of its class. Nothing is judged here.
+// A word taken apart by the layout of its class. Nothing is judged here. The kinds without a register are the short form's too.
 ghost use mathlib.Core.Path.{_≡_};
 ghost use Rattle.record.specs.Split.{plainAt, wfxAt, mcrAt, mcrrAt, ldcAt, simdAt, callAt, smcAt, instructionAbortAt, dataAbortAt, recordOf, recordAt};
 use super::kinds::Call;
@@ -15,7 +15,7 @@ use super::kinds::Wfx;
 use bits::bit;
 use bits::field32;
 
-fn plain_at(class: u32, word: u64) -> Plain
+pub fn plain_at(class: u32, word: u64) -> Plain
     ensures { λ r. ⌜ r ≡ plainAt class word ⌝ }
 {
     Plain {
@@ -24,7 +24,7 @@ fn plain_at(class: u32, word: u64) -> Plain
     }
 }
 
-fn wfx_at(word: u64) -> Wfx
+pub fn wfx_at(word: u64) -> Wfx
     ensures { λ r. ⌜ r ≡ wfxAt word ⌝ }
 {
     Wfx {
@@ -93,7 +93,7 @@ fn simd_at(word: u64) -> Simd
     }
 }
 
-fn call_at(class: u32, word: u64) -> Call
+pub fn call_at(class: u32, word: u64) -> Call
     ensures { λ r. ⌜ r ≡ callAt class word ⌝ }
 {
     Call {
@@ -103,7 +103,7 @@ fn call_at(class: u32, word: u64) -> Call
     }
 }
 
-fn smc_at(word: u64) -> Smc
+pub fn smc_at(word: u64) -> Smc
     ensures { λ r. ⌜ r ≡ smcAt word ⌝ }
 {
     Smc {

@@ -3,7 +3,7 @@ use Prim.Native.Nat.{ℕ}
 use mathlib.Core.Bool.{Bool, true, not, _&&_, _||_}
 use lib.Dec.{eqb}
 use Rattle.edition.specs.Feature.{ras, lpa2, hafdbs}
-use Rattle.iss.specs.Rule.{implies, between, mmuFault}
+use Rattle.iss.specs.Rule.{between, isvCode}
 use Rattle.record.specs.declared.kinds.Record.{Record}
 
 -- the rows of the table of fault codes
@@ -36,7 +36,7 @@ setRule e set code = eqb set 0 || ras e && (eqb code 0x10 && (eqb set 2 || eqb s
 
 -- ISV 1 needs an MMU fault, or in editions without RAS also a code of 0x13..0x17
 abbrev pub isvRule : ℕ → Bool → ℕ → Bool
-isvRule e isv code = implies isv (mmuFault code || not (ras e) && between 0x13 0x17 code)
+isvRule e isv code = isvCode (ras e) isv code
 
 abbrev pub editionRule : ℕ → Record → Bool
 editionRule e (Record.Plain r) = true

@@ -6,10 +6,5 @@ ghost use Rattle.rule.specs.Il.{ilRule};
 pub fn il_rule(class: u32, isv: bool, il: bool) -> bool
     ensures { λ yes. ⌜ yes ≡ ilRule class isv il ⌝ }
 {
-    !((class == 0x00)
-        | (class == 0x0E)
-        | (class == 0x20)
-        | (class == 0x22)
-        | (class == 0x24) & !isv)
-        | il
+    !(iss::il_needed(class, isv) | (class == 0x22)) | il
 }

@@ -1,4 +1,5 @@
-// The rules that ask nothing of the edition: fields that fit their bits, and what the layout and the abort rules allow.
+// The rules that ask nothing of the edition: fields that fit their bits, and what the layout and the abort rules allow. The kinds without a register
+// are the short form's too.
 ghost use mathlib.Core.Path.{_≡_};
 ghost use mathlib.Core.Bool.{_&&_};
 ghost use Rattle.bits.specs.Layout.{fitting};
@@ -17,13 +18,13 @@ use record::Simd;
 use record::Smc;
 use record::Wfx;
 
-fn plain(r: Plain) -> bool
+pub fn plain(r: Plain) -> bool
     ensures { λ yes. ⌜ yes ≡ fitting (plainFields r) ⌝ }
 {
     r.class < 64
 }
 
-fn wfx(r: Wfx) -> bool
+pub fn wfx(r: Wfx) -> bool
     ensures { λ yes. ⌜ yes ≡ (fitting (wfxFields r) && conditionRule (r .cv) (r .cond)) ⌝ }
 {
     (r.cond < 16) & iss::condition_rule(r.cv, r.cond)
@@ -70,13 +71,13 @@ fn simd(r: Simd) -> bool
     (r.cond < 16) & iss::condition_rule(r.cv, r.cond)
 }
 
-fn call(r: Call) -> bool
+pub fn call(r: Call) -> bool
     ensures { λ yes. ⌜ yes ≡ fitting (callFields r) ⌝ }
 {
     (r.class < 64) & (r.imm16 < 0x1_0000)
 }
 
-fn smc(r: Smc) -> bool
+pub fn smc(r: Smc) -> bool
     ensures { λ yes. ⌜ yes ≡ (fitting (smcFields r) && (conditionRule (r .cv) (r .cond) && passedRule (r .ccknownpass) (r .cv) (r .cond))) ⌝ }
 {
     (r.cond < 16)

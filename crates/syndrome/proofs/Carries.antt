@@ -1,18 +1,13 @@
 -- The answers of `rewrite` and `carry` carry their numbers, masks and counts.
 -- Assumes nothing.
 use mathlib.Core.Path.{_≡_, refl, _∙_, sym, ap, subst}
-use mathlib.Core.Bool.{Bool, true, false, cond}
 use Prim.Native.Nat.{ℕ}
 use Rattle.bits.specs.Decide.{decide, relabel}
-use Rattle.edition.specs.Feature.{editions, isEdition}
+use Rattle.edition.specs.Feature.{editions}
 use Rattle.edition.specs.Mask.{maskOf, countBelow}
 use Rattle.edition.specs.Judge.{refusalNumber}
-use Rattle.edition.specs.declared.Refusal.the-variants.{UnknownEdition}
-use Rattle.edition.proofs.Masks.{mask-ones}
-use Rattle.form.specs.Answer.{Answer, given, refused}
-use Rattle.form.specs.Call.{sixOnly, others, callTests}
-use Rattle.form.specs.Form as Form
-use Rattle.form.proofs.Numbers.{call-through}
+use Rattle.form.specs.Call.{sixOnly, callTests}
+use Rattle.form.proofs.Numbers.{call-through, back-says}
 use Rattle.record.specs.Fields.{recordWord}
 use Rattle.record.specs.declared.kinds.Esr.{Esr}
 use Rattle.record.specs.declared.kinds.Record.{Record}
@@ -25,7 +20,7 @@ use Rattle.syndrome.specs.Carry.{rewritten, Rewriting, carriedFrom, carr
 use Rattle.syndrome.specs.declared.answer.Read.{Read}
 use Rattle.syndrome.specs.declared.answer.Written.{Written}
 use Rattle.syndrome.specs.declared.answer.Carried.{Carried}
-use Rattle.syndrome.proofs.Promises.{reads, writes}
+use Rattle.syndrome.proofs.Promises.{read-says, reads, writes}
 
 same-number : (esr : Esr) (a : Read) → numberWritten (rewritten esr a) ≡ numberRead a
 same-number esr (Read.Taken r) = refl
@@ -35,39 +30,15 @@ pub rewrites : (e : ℕ) (esr : Esr) {a : Written} → a ≡ rewritten esr (read
 rewrites e esr same =
     subst (Rewriting e esr) (sym same) record { answer = refl; number = same-number esr (readOf e esr) ∙ reads e esr refl .number }
 
-module _ (reader : ℕ) (r : Record) where
-  -- what the reader makes of the record, by its two tests
-  back-number : numberRead (asRead (Form.readBack editions has reader r)) ≡ cond (isEdition reader) (cond (has reader r) 0 6) 1
-  back-number = by (isEdition reader) (has reader r)
-    where
-      by : (k h : Bool)
-          → numberRead (asRead (cond k (cond h (given r) (refused (others editions (λ x. has x r)))) (refused UnknownEdition))) ≡ cond k (cond h 0 6) 1
-      by true true = refl
-      by true false = refl
-      by false h = refl
-
-  abbrev Names : Read → Type 0
-  Names a =
-      (maskRead a ≡ sixOnly (numberRead a) (editionsOf r)) × (countRead a ≡ sixOnly (numberRead a) (countBelow editions (λ x. has x r)))
-
-  back-names : Names (asRead (Form.readBack editions has reader r))
-  unfolding maskOf
-  back-names = by (isEdition reader) (has reader r)
-    where
-      by : (k h : Bool) → Names (asRead (cond k (cond h (given r) (refused (others editions (λ x. has x r)))) (refused UnknownEdition)))
-      by true true = (refl, refl)
-      by true false = (refl, mask-ones editions (λ x. has x r))
-      by false h = (refl, refl)
-
 module _ (writer reader : ℕ) (r : Record) where
   carried-number : numberCarried (carriedOf writer reader r) ≡ carryNumber writer reader r
   unfolding carriedOf writeOf
   carried-number =
       call-through (λ a. numberCarried (carriedFrom reader r (asWritten a))) editions (λ x. has x r) (writeTests r) writer (recordWord r)
-      ∙ ap (decide (relabel refusalNumber (callTests editions (λ x. has x r) (writeTests r) writer))) (back-number reader r)
+      ∙ ap (decide (relabel refusalNumber (callTests editions (λ x. has x r) (writeTests r) writer))) (back-says editions has reader r asRead numberRead maskRead countRead read-says .0)
 
   carrying : Carrying writer reader r (carriedOf writer reader r)
-  unfolding carriedOf
+  unfolding carriedOf maskOf
   carrying =
       let named = by (writeOf writer r) (writes writer r refl) in
       record { answer = refl; number = carried-number; mask = named .0; count = named .1 }
@@ -75,7 +46,7 @@ module _ (writer reader : ℕ) (r : Record) where
       by : (a : Written) → Writing writer r a
           → (maskCarried (carriedFrom reader r a) ≡ sixOnly (numberCarried (carriedFrom reader r a)) (editionsOf r))
           × (countCarried (carriedFrom reader r a) ≡ sixOnly (numberCarried (carriedFrom reader r a)) (countBelow editions (λ x. has x r)))
-      by (Written.Word esr) w = back-names reader r
+      by (Written.Word esr) w = let said = back-says editions has reader r asRead numberRead maskRead countRead read-says in (said .1, said .2)
       by (Written.Refused f) w = (w .mask, w .count)
 
   pub carries : {c : Carried} → c ≡ carriedOf writer reader r → Carrying writer reader r c

@@ -20,7 +20,7 @@ use Rattle.syndrome.specs.declared.answer.Read.{Read}
 use Rattle.syndrome.specs.declared.answer.Written.{Written}
 use Rattle.syndrome.proofs.Instance.{sound}
 
-read-says : Says asRead numberRead maskRead countRead
+pub read-says : Says asRead numberRead maskRead countRead
 read-says (given r) = (refl, refl, refl)
 read-says (refused f) = (refl, refl, refl)
 

@@ -1,7 +1,7 @@
 -- Reading and writing, one test after the other, as the code makes them.
 -- Assumes nothing.
-use mathlib.Core.Path.{_≡_, refl, _∙_, sym, ap}
-use mathlib.Core.Bool.{Bool, true, false, cond, _&&_, and-false}
+use mathlib.Core.Path.{_≡_, refl}
+use mathlib.Core.Bool.{true, false, cond}
 use Prim.Native.Nat.{ℕ}
 use borrow.Author.Tests.{ltb-true}
 use lib.Dec.{eqb}
@@ -11,11 +11,10 @@ use Rattle.edition.specs.Mask.{maskOf}
 use Rattle.edition.specs.Judge.{judgeOf}
 use Rattle.edition.specs.declared.Refusal.the-variants.{UnknownEdition, UpperHalf, UnknownClass, ShortInstruction, NoEdition}
 use Rattle.edition.specs.declared.Verdict.{Verdict}
-use Rattle.edition.proofs.Masks.{mask-when, mask-same}
 use Rattle.edition.proofs.Judgement.{judge-taken}
 use Rattle.form.specs.Call.{callOf}
 use Rattle.form.specs.Form as Form
-use Rattle.form.proofs.Verdicts.{call-verdict}
+use Rattle.form.proofs.Verdicts.{made-mask, call-verdict}
 use Rattle.record.specs.Class.{headOf}
 use Rattle.record.specs.Fields.{fieldsOf, recordWord}
 use Rattle.record.specs.Split.{recordAt}
@@ -90,15 +89,7 @@ module _ (e : ℕ) (r : Record) where
 -- the editions that have a record which makes the word, by the word that is put together
 pub makes-mask : (r : Record) (w : ℕ) → cond (eqb (joinedFrom 0 (fieldsOf r)) w) (editionsOf r) 0 ≡ maskOf (λ e. makes e r w)
 unfolding maskOf
-makes-mask r w =
-    mask-when editions (eqb (joinedFrom 0 (fieldsOf r)) w) (λ e. has e r)
-    ∙ mask-same editions (λ e. eqb (joinedFrom 0 (fieldsOf r)) w && has e r) (λ e. makes e r w) (λ e h. by e (has e r) refl)
-  where
-    by : (e : ℕ) (b : Bool) → has e r ≡ b → (eqb (joinedFrom 0 (fieldsOf r)) w && has e r) ≡ makes e r w
-    by e true h = ap (λ (n : ℕ). eqb n w && has e r) (joined-record r (has-fits e r h))
-    by e false h =
-        ap (λ (b : Bool). eqb (joinedFrom 0 (fieldsOf r)) w && b) h ∙ and-false (eqb (joinedFrom 0 (fieldsOf r)) w)
-        ∙ sym (ap (λ (b : Bool). eqb (recordWord r) w && b) h ∙ and-false (eqb (recordWord r) w))
+makes-mask r w = made-mask editions (λ e. has e r) (joinedFrom 0 (fieldsOf r)) (recordWord r) w (λ e h. joined-record r (has-fits e r h))
 
 -- a record that an edition takes is put together into its word
 pub joined-taken : (e : ℕ) (r : Record) → isEdition e ≡ true → judgeOf e (editionsOf r) ≡ Verdict.Taken → joinedFrom 0 (fieldsOf r) ≡ recordWord r

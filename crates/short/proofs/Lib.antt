@@ -1,0 +1,7 @@
+pub mod Instance
+pub mod Steps
+pub mod Promises
+pub mod Demand2
+pub mod Demand3
+pub mod Carries
+pub mod Refusals
