@@ -5,8 +5,10 @@ use crate::catalogue::Catalogue;
 use crate::form::{Form, Record};
 use crate::guest::{inject, Fault, Injection, State};
 use crate::long::LONG;
+use crate::short::SHORT;
 use crate::syndrome::{read, word_to_look_up, write, Refusal};
 use crate::trap::{read_both, read_trap, Intermediate, Registers, Trap};
+use crate::widen::{widen, widened};
 
 /// A question to one of the calls.
 #[derive(Clone, Debug)]
@@ -31,6 +33,18 @@ pub enum Call {
     Both {
         editions: [u32; 2],
         registers: Registers,
+    },
+    ShortRead {
+        edition: u32,
+        word: u32,
+    },
+    ShortWrite {
+        edition: u32,
+        record: Record,
+    },
+    Widen {
+        mode: u32,
+        record: Record,
     },
     /// By value or on a state that is lent: the answers are the same.
     Inject {
@@ -70,6 +84,17 @@ impl Call {
                 let registers = Registers { esr, far, hpfar };
                 Some(Call::Both { editions: [narrow(first)?, narrow(second)?], registers })
             }
+            (b"hread", &[edition, word]) => {
+                Some(Call::ShortRead { edition: narrow(edition)?, word: narrow(word)? })
+            }
+            (b"hwrite", [edition, record @ ..]) => {
+                let record = Record::from_row(&SHORT, record)?;
+                Some(Call::ShortWrite { edition: narrow(*edition)?, record })
+            }
+            (b"widen", [mode, record @ ..]) => {
+                let record = Record::from_row(&SHORT, record)?;
+                Some(Call::Widen { mode: narrow(*mode)?, record })
+            }
             (b"inject" | b"lent", &[kind, fault, level, address, write, ref state @ ..]) => {
                 let injection = injection_of([kind, fault, level, address, write])?;
                 let state = State::from_numbers(state)?;
@@ -93,6 +118,11 @@ impl Call {
             Call::Both { editions: [first, second], registers } => {
                 ("both", [row![*first, *second], registers_row(registers)].concat())
             }
+            Call::ShortRead { edition, word } => ("hread", row![*edition, *word]),
+            Call::ShortWrite { edition, record } => {
+                ("hwrite", [row![*edition], record.row()].concat())
+            }
+            Call::Widen { mode, record } => ("widen", [row![*mode], record.row()].concat()),
             Call::Inject { lent, injection, state } => {
                 let name = if *lent { "lent" } else { "inject" };
                 (name, [injection_row(injection), state.numbers()].concat())
@@ -101,20 +131,33 @@ impl Call {
         format!("{name} {}", text(&numbers))
     }
 
-    /// The word that the answer looks up, if it looks one up.
-    pub fn word(&self) -> Option<u32> {
+    /// Notes the words that the answer looks up.
+    fn look_up(&self, words: &mut Words) {
         match self {
-            Call::Read { edition, word } => looked_up(&LONG, *edition, *word),
-            Call::Write { record, .. } | Call::Carry { record, .. } => record.word(),
-            Call::Trap { edition, registers } => looked_up(&LONG, *edition, registers.esr),
+            Call::Read { edition, word } => words.long.extend(looked_up(&LONG, *edition, *word)),
+            Call::Write { record, .. } | Call::Carry { record, .. } => {
+                words.long.extend(record.word());
+            }
+            Call::Trap { edition, registers } => {
+                words.long.extend(looked_up(&LONG, *edition, registers.esr));
+            }
             // A word that is refused before its record is looked up is so in
             // every edition that there is.
-            Call::Both { registers, .. } => looked_up(&LONG, 0, registers.esr),
-            Call::Inject { .. } => None,
+            Call::Both { registers, .. } => words.long.extend(looked_up(&LONG, 0, registers.esr)),
+            Call::ShortRead { edition, word } => {
+                words.short.extend(looked_up(&SHORT, *edition, u64::from(*word)));
+            }
+            Call::ShortWrite { record, .. } => words.short.extend(record.word()),
+            Call::Widen { mode, record } => {
+                words.short.extend(record.word());
+                words.long.extend(widened(*mode, record).and_then(|wide| wide.word()));
+            }
+            Call::Inject { .. } => {}
         }
     }
 
-    pub fn answer(&self, catalogue: &Catalogue) -> Vec<u64> {
+    fn answer(&self, catalogues: &Catalogues) -> Vec<u64> {
+        let Catalogues { long: catalogue, short } = catalogues;
         match self {
             Call::Read { edition, word } => {
                 answered(read(catalogue, *edition, *word).map(|record| record.row()))
@@ -134,6 +177,16 @@ impl Call {
                 let both = read_both(catalogue, *editions, *registers);
                 answered(both.map(|traps| traps.each_ref().map(trap_row).concat()))
             }
+            Call::ShortRead { edition, word } => {
+                let answer = read(short, *edition, u64::from(*word));
+                answered(answer.map(|record| record.row()))
+            }
+            Call::ShortWrite { edition, record } => {
+                answered(write(short, *edition, record).map(|word| row![word]))
+            }
+            Call::Widen { mode, record } => {
+                answered(widen(short, catalogue, *mode, record).map(|record| record.row()))
+            }
             Call::Inject { injection, state, .. } => match inject(state, injection) {
                 Ok(after) => [row![0u8], after.numbers()].concat(),
                 Err(refusal) => [row![refusal], state.numbers()].concat(),
@@ -142,14 +195,37 @@ impl Call {
     }
 }
 
+/// The words that answers look up, by form.
+#[derive(Default)]
+struct Words {
+    long: Vec<u32>,
+    short: Vec<u32>,
+}
+
+/// What the enumeration answers for them.
+struct Catalogues {
+    long: Catalogue,
+    short: Catalogue,
+}
+
+impl Catalogues {
+    fn of<'a>(calls: impl Iterator<Item = &'a Call>) -> Catalogues {
+        let mut words = Words::default();
+        for call in calls {
+            call.look_up(&mut words);
+        }
+        let long = Catalogue::of(&LONG, words.long);
+        Catalogues { long, short: Catalogue::of(&SHORT, words.short) }
+    }
+}
+
 /// The answers to an input's lines, each with its newline. The last line may
 /// lack its own.
 pub fn answers(input: &[u8]) -> Vec<u8> {
     let calls: Vec<Option<Call>> = lines(input).map(Call::parse).collect();
-    let words = calls.iter().flatten().filter_map(Call::word);
-    let catalogue = Catalogue::of(&LONG, words);
+    let catalogues = Catalogues::of(calls.iter().flatten());
     let answer = |call: &Option<Call>| match call {
-        Some(call) => text(&call.answer(&catalogue)) + "\n",
+        Some(call) => text(&call.answer(&catalogues)) + "\n",
         None => "no row\n".into(),
     };
     calls.iter().map(answer).collect::<String>().into_bytes()
@@ -309,7 +385,13 @@ mod tests {
 
     #[test]
     fn a_call_is_parsed_back() {
-        for line in ["read 7 1f", "write 0 0 22 1", "both 0 8 1 2 3", "carry 1 2 5 1 0 f"] {
+        for line in [
+            "read 7 1f",
+            "write 0 0 22 1",
+            "both 0 8 1 2 3",
+            "carry 1 2 5 1 0 f",
+            "widen 1f 0 22 0",
+        ] {
             assert_eq!(Call::parse(line.as_bytes()).expect("a row").line(), line);
         }
     }

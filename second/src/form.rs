@@ -117,6 +117,10 @@ pub struct Family {
 }
 
 impl Family {
+    pub fn has(&self, field: &str) -> bool {
+        self.kind.has(field)
+    }
+
     /// Every value that fits, of every field.
     pub fn every(kind: &'static Kind) -> Family {
         let choices = kind.fields.iter().map(|field| (0..field.values()).collect()).collect();

@@ -18,6 +18,7 @@ mod programs;
 mod proved;
 mod random;
 mod rows;
+mod short;
 mod status;
 mod syndrome;
 #[cfg(feature = "compare")]
@@ -25,6 +26,7 @@ mod table;
 #[cfg(feature = "compare")]
 mod tally;
 mod trap;
+mod widen;
 
 use std::env;
 use std::io;

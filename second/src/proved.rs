@@ -2,6 +2,7 @@
 
 use crate::form::Form;
 use crate::long::LONG;
+use crate::short::SHORT;
 
 /// What `rewrite` gives where reading or writing refused.
 pub const REFUSED: u64 = u64::MAX;
@@ -9,6 +10,8 @@ pub const REFUSED: u64 = u64::MAX;
 extern "C" {
     fn knucklepin_read(edition: u32, word: u64) -> u64;
     fn knucklepin_rewrite(reader: u32, writer: u32, word: u64) -> u64;
+    fn knucklepin_short_read(edition: u32, word: u32) -> u64;
+    fn knucklepin_short_rewrite(reader: u32, writer: u32, word: u32) -> u64;
 }
 
 /// The proved reader and writer of a form.
@@ -22,8 +25,10 @@ pub struct Proved {
     pub rewrite: fn(u32, u32, u32) -> u64,
 }
 
-pub const PROVED: [Proved; 1] =
-    [Proved { name: "long", form: &LONG, read: read_long, rewrite: rewrite_long }];
+pub const PROVED: [Proved; 2] = [
+    Proved { name: "long", form: &LONG, read: read_long, rewrite: rewrite_long },
+    Proved { name: "short", form: &SHORT, read: read_short, rewrite: rewrite_short },
+];
 
 pub fn read_long(edition: u32, word: u32) -> u64 {
     // SAFETY: the call takes and gives plain numbers and keeps no state.
@@ -33,4 +38,14 @@ pub fn read_long(edition: u32, word: u32) -> u64 {
 fn rewrite_long(reader: u32, writer: u32, word: u32) -> u64 {
     // SAFETY: the call takes and gives plain numbers and keeps no state.
     unsafe { knucklepin_rewrite(reader, writer, word.into()) }
+}
+
+fn read_short(edition: u32, word: u32) -> u64 {
+    // SAFETY: the call takes and gives plain numbers and keeps no state.
+    unsafe { knucklepin_short_read(edition, word) }
+}
+
+fn rewrite_short(reader: u32, writer: u32, word: u32) -> u64 {
+    // SAFETY: the call takes and gives plain numbers and keeps no state.
+    unsafe { knucklepin_short_rewrite(reader, writer, word) }
 }

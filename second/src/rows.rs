@@ -6,6 +6,7 @@ mod inject;
 mod malformed;
 mod read;
 mod samples;
+mod short;
 mod trap;
 mod write;
 
@@ -29,7 +30,8 @@ fn questions() -> Vec<u8> {
         .chain(read::questions())
         .chain(write::questions())
         .chain(trap::questions())
-        .chain(inject::questions());
+        .chain(inject::questions())
+        .chain(short::questions());
     let lines = calls.map(|call| call.line() + "\n");
     let mut bytes = lines.collect::<String>().into_bytes();
     bytes.extend(malformed::lines());
@@ -133,6 +135,9 @@ mod tests {
             ("both", 1000, "0 1 2 3 4 5 6 7 8"),
             ("inject", 1000, "0 9 a b c"),
             ("lent", 300, "0 9 a b c"),
+            ("hread", 1000, "0 1 3 4 5 6"),
+            ("hwrite", 1000, "0 1 4 5 6"),
+            ("widen", 1000, "0 5 9"),
         ];
         let [stdin, stdout] = files().expect("the cases of the paper");
         let mut given: BTreeMap<String, (usize, BTreeSet<String>)> = BTreeMap::new();

@@ -5,6 +5,9 @@
 mod both;
 mod carry;
 mod given;
+mod hgiven;
+mod hread;
+mod hwrite;
 mod inject;
 mod injection;
 mod lent;
@@ -14,6 +17,7 @@ mod read;
 mod row;
 mod state;
 mod trapped;
+mod widened;
 mod write;
 
 use libc::STDIN_FILENO;
@@ -43,6 +47,15 @@ fn call(word: u64, row: &[u64], out: &mut [u8], at: usize) -> usize {
     }
     if word == spelled(b"lent") {
         return lent::answer(row, out, at);
+    }
+    if word == spelled(b"hread") {
+        return hread::answer(row, out, at);
+    }
+    if word == spelled(b"hwrite") {
+        return hwrite::answer(row, out, at);
+    }
+    if word == spelled(b"widen") {
+        return widened::answer(row, out, at);
     }
     out::no_row(out, at)
 }

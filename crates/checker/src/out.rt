@@ -45,3 +45,10 @@ pub fn refused(out: &mut [u8], at: usize, refusal: Refusal) -> usize {
     let mask = next(out, number, edition::mask(refusal) as u64);
     next(out, mask, edition::count(refusal) as u64)
 }
+
+// The number of a refusal that carries no mask and no count.
+pub fn bare_refusal(out: &mut [u8], at: usize, number: u64) -> usize {
+    let refused = first(out, at, number);
+    let none = [0, 0];
+    numbers(out, refused, &none)
+}

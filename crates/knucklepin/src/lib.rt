@@ -1,8 +1,10 @@
 // The syndrome reader and writer for programs in other languages: `rt staticlib knucklepin`.
 ghost use mathlib.Core.Path.{_≡_};
 ghost use Rattle.knucklepin.specs.Packed.{packedRefusal, packedRead, rewritten};
+ghost use Rattle.knucklepin.specs.Short.{packedShortRead, rewrittenShort};
 use edition::Refusal;
 use record::Esr;
+use short_record::Hsr;
 use syndrome::Read;
 use syndrome::Written;
 
@@ -40,5 +42,30 @@ pub extern "C" fn knucklepin_rewrite(reader: u32, writer: u32, word: u64) -> u64
             Written::Refused(_) => REFUSED,
         },
         Read::Refused(_) => REFUSED,
+    }
+}
+
+// Reads a word of the short form: 0 where it is taken, else the refusal as one number.
+#[no_mangle]
+pub extern "C" fn knucklepin_short_read(edition: u32, word: u32) -> u64
+    ensures { λ n. ⌜ n ≡ packedShortRead edition word ⌝ }
+{
+    match short::read(edition, Hsr(word)) {
+        short::Read::Taken(_) => 0,
+        short::Read::Refused(refusal) => packed(refusal),
+    }
+}
+
+// Reads a word of the short form in one edition and writes the record in another: the word, or all ones where either refuses.
+#[no_mangle]
+pub extern "C" fn knucklepin_short_rewrite(reader: u32, writer: u32, word: u32) -> u64
+    ensures { λ w. ⌜ w ≡ rewrittenShort reader writer word ⌝ }
+{
+    match short::read(reader, Hsr(word)) {
+        short::Read::Taken(r) => match short::write(writer, r) {
+            short::Written::Word(hsr) => hsr.0 as u64,
+            short::Written::Refused(_) => REFUSED,
+        },
+        short::Read::Refused(_) => REFUSED,
     }
 }

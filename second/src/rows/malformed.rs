@@ -18,6 +18,11 @@ fn rows() -> Vec<String> {
         "carry 0 1 8 1 3 1 1 0 10",
         "trap 0 92000005 8abc 12340",
         "both 0 2 92000005 8abc 12340",
+        "hread 0 92000005",
+        "hwrite 0 5 1 1 e 1 a",
+        "hwrite 0 8 1 1 1 0 10",
+        "hwrite 0 9 1 1 2 0 3 0 0 0 0 0 0 1 5",
+        "widen 10 2 3 1 1 e 0 0 0 0 0 1",
     ]
     .map(String::from)
     .into();

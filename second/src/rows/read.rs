@@ -110,12 +110,16 @@ mod tests {
     use super::*;
     use crate::catalogue::Catalogue;
     use crate::ordinary;
-    use crate::syndrome::read;
+    use crate::syndrome::{read, word_to_look_up};
 
     #[test]
     fn the_ordinary_reader_gives_the_same_answers() {
         let questions = questions();
-        let catalogue = Catalogue::of(&LONG, questions.iter().filter_map(Call::word));
+        let words = questions.iter().filter_map(|call| match *call {
+            Call::Read { edition, word } => Some(word_to_look_up(&LONG, edition, word).ok()?.1),
+            _ => None,
+        });
+        let catalogue = Catalogue::of(&LONG, words);
         for call in questions {
             let Call::Read { edition, word } = call else { continue };
             let answer = read(&catalogue, edition, word).map(|_| ());
