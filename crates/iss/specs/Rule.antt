@@ -48,3 +48,11 @@ extensionRule sse sas wnr = implies sse (ltb sas 2 && not wnr)
 -- CM 1 needs WnR 1
 abbrev pub maintenanceRule : Bool → Bool → Bool
 maintenanceRule cm wnr = implies cm wnr
+
+-- 02, C-13: a VMRS, class 0x08, and an MRRC, class 0x0C, have direction 1
+abbrev pub directionRule : ℕ → Bool → Bool
+directionRule class direction = implies (eqb class 0x08 || eqb class 0x0C) direction
+
+-- 02, C-13: IL 0 is an SVC of 16 bits, whose immediate is at most 255
+abbrev pub immediateRule : Bool → ℕ → Bool
+immediateRule il imm16 = il || leb imm16 255

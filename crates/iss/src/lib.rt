@@ -1,7 +1,7 @@
 // Rules of single fields of the ISS, which every form of a syndrome word shares.
 ghost use mathlib.Core.Path.{_≡_};
-ghost use Rattle.iss.specs.Rule.{conditionRule, addressingRule, passedRule, mmuFault, externalRule, walkRule, abortRule, extensionRule, maintenanceRule};
-ghost use Rattle.iss.specs.Il.{ilNeeded};
+ghost use Rattle.iss.specs.Rule.{conditionRule, addressingRule, passedRule, mmuFault, externalRule, walkRule, abortRule, extensionRule, maintenanceRule, directionRule, immediateRule};
+ghost use Rattle.iss.specs.Il.{wideOnly, ilNeeded};
 
 // CV 1 with COND 1111 is no condition of a trapped instruction.
 pub fn condition_rule(cv: bool, cond: u32) -> bool
@@ -66,9 +66,30 @@ pub fn maintenance_rule(cm: bool, wnr: bool) -> bool
     !cm | wnr
 }
 
+// A trapped instruction that has no 16-bit form.
+fn wide_only(class: u32) -> bool
+    ensures { λ yes. ⌜ yes ≡ wideOnly class ⌝ }
+{
+    (0x03 <= class) & (class <= 0x08) | (class == 0x0C) | (class == 0x12) | (class == 0x13)
+}
+
 // Where IL must be 1 in every form.
 pub fn il_needed(class: u32, isv: bool) -> bool
     ensures { λ yes. ⌜ yes ≡ ilNeeded class isv ⌝ }
 {
-    (class == 0x00) | (class == 0x0E) | (class == 0x20) | (class == 0x24) & !isv
+    (class == 0x00) | (class == 0x0E) | (class == 0x20) | wide_only(class) | (class == 0x24) & !isv
+}
+
+// A VMRS and an MRRC read: direction 1.
+pub fn direction_rule(class: u32, direction: bool) -> bool
+    ensures { λ yes. ⌜ yes ≡ directionRule class direction ⌝ }
+{
+    !((class == 0x08) | (class == 0x0C)) | direction
+}
+
+// The 16-bit form of an SVC has an immediate of 8 bits.
+pub fn immediate_rule(il: bool, imm16: u32) -> bool
+    ensures { λ yes. ⌜ yes ≡ immediateRule il imm16 ⌝ }
+{
+    il | (imm16 <= 255)
 }

@@ -4,7 +4,7 @@ ghost use mathlib.Core.Path.{_≡_};
 ghost use mathlib.Core.Bool.{_&&_};
 ghost use Rattle.bits.specs.Layout.{fitting};
 ghost use Rattle.record.specs.Fields.{plainFields, wfxFields, mcrFields, mcrrFields, ldcFields, simdFields, callFields, smcFields, instructionAbortFields, dataAbortFields, fieldsOf};
-ghost use Rattle.iss.specs.Rule.{conditionRule, addressingRule, passedRule, abortRule};
+ghost use Rattle.iss.specs.Rule.{conditionRule, directionRule, immediateRule, addressingRule, passedRule, abortRule};
 ghost use Rattle.rule.specs.Rule.{noSyndromeRule, validSyndromeRule, syndromeRule, dataRule, layoutRule};
 use record::Call;
 use record::DataAbort;
@@ -31,7 +31,7 @@ pub fn wfx(r: Wfx) -> bool
 }
 
 fn mcr(r: Mcr) -> bool
-    ensures { λ yes. ⌜ yes ≡ (fitting (mcrFields r) && conditionRule (r .cv) (r .cond)) ⌝ }
+    ensures { λ yes. ⌜ yes ≡ (fitting (mcrFields r) && (conditionRule (r .cv) (r .cond) && directionRule (r .class) (r .direction))) ⌝ }
 {
     (r.class < 64)
         & (r.cond < 16)
@@ -40,11 +40,11 @@ fn mcr(r: Mcr) -> bool
         & (r.crn < 16)
         & (r.rt < 32)
         & (r.crm < 16)
-        & iss::condition_rule(r.cv, r.cond)
+        & (iss::condition_rule(r.cv, r.cond) & iss::direction_rule(r.class, r.direction))
 }
 
 fn mcrr(r: Mcrr) -> bool
-    ensures { λ yes. ⌜ yes ≡ (fitting (mcrrFields r) && conditionRule (r .cv) (r .cond)) ⌝ }
+    ensures { λ yes. ⌜ yes ≡ (fitting (mcrrFields r) && (conditionRule (r .cv) (r .cond) && directionRule (r .class) (r .direction))) ⌝ }
 {
     (r.class < 64)
         & (r.cond < 16)
@@ -52,7 +52,7 @@ fn mcrr(r: Mcrr) -> bool
         & (r.rt2 < 32)
         & (r.rt < 32)
         & (r.crm < 16)
-        & iss::condition_rule(r.cv, r.cond)
+        & (iss::condition_rule(r.cv, r.cond) & iss::direction_rule(r.class, r.direction))
 }
 
 fn ldc(r: Ldc) -> bool
@@ -72,9 +72,9 @@ fn simd(r: Simd) -> bool
 }
 
 pub fn call(r: Call) -> bool
-    ensures { λ yes. ⌜ yes ≡ fitting (callFields r) ⌝ }
+    ensures { λ yes. ⌜ yes ≡ (fitting (callFields r) && immediateRule (r .il) (r .imm16)) ⌝ }
 {
-    (r.class < 64) & (r.imm16 < 0x1_0000)
+    (r.class < 64) & (r.imm16 < 0x1_0000) & iss::immediate_rule(r.il, r.imm16)
 }
 
 pub fn smc(r: Smc) -> bool

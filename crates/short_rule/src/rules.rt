@@ -2,7 +2,7 @@
 ghost use mathlib.Core.Path.{_≡_};
 ghost use mathlib.Core.Bool.{_&&_};
 ghost use Rattle.bits.specs.Layout.{fitting};
-ghost use Rattle.iss.specs.Rule.{conditionRule, addressingRule, abortRule};
+ghost use Rattle.iss.specs.Rule.{conditionRule, directionRule, addressingRule, abortRule};
 ghost use Rattle.short_record.specs.Fields.{mcrFields, mcrrFields, ldcFields, simdFields, instructionAbortFields, dataAbortFields, fieldsOf};
 ghost use Rattle.short_rule.specs.Rule.{coprocRule, asynchronous, noSyndromeRule, validSyndromeRule, syndromeRule, asynchronousRule, dataRule, layoutRule};
 use rule::rules;
@@ -15,7 +15,7 @@ use short_record::Record;
 use short_record::Simd;
 
 fn mcr(r: Mcr) -> bool
-    ensures { λ yes. ⌜ yes ≡ (fitting (mcrFields r) && conditionRule (r .cv) (r .cond)) ⌝ }
+    ensures { λ yes. ⌜ yes ≡ (fitting (mcrFields r) && (conditionRule (r .cv) (r .cond) && directionRule (r .class) (r .direction))) ⌝ }
 {
     (r.class < 64)
         & (r.cond < 16)
@@ -24,11 +24,11 @@ fn mcr(r: Mcr) -> bool
         & (r.crn < 16)
         & (r.rt < 16)
         & (r.crm < 16)
-        & iss::condition_rule(r.cv, r.cond)
+        & (iss::condition_rule(r.cv, r.cond) & iss::direction_rule(r.class, r.direction))
 }
 
 fn mcrr(r: Mcrr) -> bool
-    ensures { λ yes. ⌜ yes ≡ (fitting (mcrrFields r) && conditionRule (r .cv) (r .cond)) ⌝ }
+    ensures { λ yes. ⌜ yes ≡ (fitting (mcrrFields r) && (conditionRule (r .cv) (r .cond) && directionRule (r .class) (r .direction))) ⌝ }
 {
     (r.class < 64)
         & (r.cond < 16)
@@ -36,7 +36,7 @@ fn mcrr(r: Mcrr) -> bool
         & (r.rt2 < 16)
         & (r.rt < 16)
         & (r.crm < 16)
-        & iss::condition_rule(r.cv, r.cond)
+        & (iss::condition_rule(r.cv, r.cond) & iss::direction_rule(r.class, r.direction))
 }
 
 fn ldc(r: Ldc) -> bool

@@ -93,7 +93,7 @@ returns-6 : tie.Need-returns-6
 returns-6 c = at-arm allowedOf (c .simd .ensures) (c .before .before .r6 .given .1)
 
 returns-7 : tie.Need-returns-7
-returns-7 c = at-arm allowedOf (c .call .ensures ∙ sym (and-true _)) (c .before .before .r7 .given .1)
+returns-7 c = at-arm allowedOf (c .call .ensures) (c .before .before .r7 .given .1)
 
 returns-8 : tie.Need-returns-8
 returns-8 c = at-arm allowedOf (c .smc .ensures) (c .before .before .r8 .given .1)
