@@ -92,17 +92,40 @@ fn needs_il(class: u8, isv: bool) -> bool {
     match class {
         0x00 | 0x0e | 0x20 | 0x22 => true,
         0x24 => !isv,
-        _ => false,
+        _ => has_no_16_bit_form(class),
     }
 }
 
-fn families(kind: &'static Kind, class: u8, edition: Edition) -> Vec<Family> {
+/// Of the trapped instructions only WFI, WFE and SVC have a 16-bit form.
+pub fn has_no_16_bit_form(class: u8) -> bool {
+    matches!(class, 0x03..=0x08 | 0x0c | 0x12 | 0x13)
+}
+
+/// Every record of a trapped instruction's class: one with no 16-bit form has
+/// IL 1, and class 0x08 is a VMRS and 0x0C an MRRC, which read.
+pub fn instructions(kind: &'static Kind, class: u8) -> Family {
     let every = Family::every(kind);
+    match class {
+        0x08 | 0x0c => every.with("IL", [1]).with("Direction", [1]),
+        _ if has_no_16_bit_form(class) => every.with("IL", [1]),
+        _ => every,
+    }
+}
+
+/// A 16-bit SVC has an immediate of 8 bits.
+pub fn supervisor_calls(family: &Family) -> [Family; 2] {
+    let short = family.clone().with("IL", [0]).with("imm16", 0..=255);
+    [family.clone().with("IL", [1]), short]
+}
+
+fn families(kind: &'static Kind, class: u8, edition: Edition) -> Vec<Family> {
+    let every = instructions(kind, class);
     match class {
         0x00 | 0x0e | 0x22 => vec![every.with("IL", [1])],
         0x01 | 0x03 | 0x04 | 0x05 | 0x07 | 0x08 | 0x0c => conditions(&every).into(),
         0x06 => conditions(&every).iter().flat_map(addressing_modes).collect(),
-        0x11 | 0x12 => vec![every],
+        0x11 => supervisor_calls(&every).into(),
+        0x12 => vec![every],
         0x13 => calls_to_the_monitor(&every),
         0x20 => fault_statuses(&every.with("IL", [1]), edition, &fault_codes(edition)),
         0x24 => data_aborts(&every, edition),
@@ -243,12 +266,15 @@ mod tests {
         let expected = [
             (0x00, 1),
             (0x01, 2 * conditions * 2),
-            (0x03, (2 * conditions) << 20),
-            (0x04, (2 * conditions) << 19),
-            (0x06, 2 * conditions * 256 * 32 * 2 * 10),
-            (0x07, 2 * conditions),
-            (0x11, 2 << 16),
-            (0x13, 2 + 2 * conditions),
+            (0x03, conditions << 20),
+            (0x04, conditions << 19),
+            (0x06, conditions * 256 * 32 * 2 * 10),
+            (0x07, conditions),
+            (0x08, conditions << 19),
+            (0x0c, conditions << 18),
+            (0x11, (1 << 16) + 256),
+            (0x12, 1 << 16),
+            (0x13, 1 + conditions),
         ];
         for (class, number) in expected {
             let mut seen = 0;

@@ -97,7 +97,7 @@ fn needs_il(word: u32) -> bool {
     match bits(word, 31, 26) {
         0x00 | 0x0e | 0x20 | 0x22 => true,
         0x24 => !bit(word, 24),
-        _ => false,
+        class => matches!(class, 0x03..=0x08 | 0x0c | 0x12 | 0x13),
     }
 }
 
@@ -136,6 +136,9 @@ fn wfx(word: u32, il: bool) -> Option<Record> {
 }
 
 fn mcr(word: u32, class: u8, il: bool) -> Option<Record> {
+    if class == 0x08 && !bit(word, 0) {
+        return None;
+    }
     Some(Record::Mcr {
         class,
         il,
@@ -148,7 +151,7 @@ fn mcr(word: u32, class: u8, il: bool) -> Option<Record> {
 }
 
 fn mcrr(word: u32, class: u8, il: bool) -> Option<Record> {
-    if bit(word, 15) {
+    if bit(word, 15) || (class == 0x0c && !bit(word, 0)) {
         return None;
     }
     Some(Record::Mcrr {
@@ -186,7 +189,8 @@ fn floating_point(word: u32, il: bool) -> Option<Record> {
 
 fn call(word: u32, class: u8, il: bool) -> Option<Record> {
     let imm16 = (word & 0xffff) as u16;
-    only(word, 0xffff).then_some(Record::Call { class, il, imm16 })
+    let named = if il { 0xffff } else { 0xff };
+    only(word, named).then_some(Record::Call { class, il, imm16 })
 }
 
 fn smc(word: u32, il: bool) -> Option<Record> {

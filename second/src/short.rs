@@ -3,7 +3,10 @@
 
 use crate::edition::Edition;
 use crate::form::{bit, field, Family, Field, Form, Kind};
-use crate::long::{addressing_modes, bit_if, calls_to_the_monitor, conditions};
+use crate::long::{
+    addressing_modes, bit_if, calls_to_the_monitor, conditions, has_no_16_bit_form, instructions,
+    supervisor_calls,
+};
 
 pub static SHORT: Form = Form { kinds: &KINDS, editions: 2, needs_il, families };
 
@@ -98,19 +101,20 @@ fn needs_il(class: u8, isv: bool) -> bool {
     match class {
         0x00 | 0x0e | 0x20 => true,
         0x24 => !isv,
-        _ => false,
+        _ => has_no_16_bit_form(class),
     }
 }
 
 fn families(kind: &'static Kind, class: u8, edition: Edition) -> Vec<Family> {
-    let every = Family::every(kind);
+    let every = instructions(kind, class);
     match class {
         0x00 | 0x0e => vec![every.with("IL", [1])],
         0x22 => vec![every],
         0x01 | 0x03 | 0x04 | 0x05 | 0x08 | 0x0c => conditions(&every).into(),
         0x06 => conditions(&every).iter().flat_map(addressing_modes).collect(),
         0x07 => conditions(&every).iter().flat_map(advanced_simd).collect(),
-        0x11 | 0x12 => vec![every],
+        0x11 => supervisor_calls(&every).into(),
+        0x12 => vec![every],
         0x13 => calls_to_the_monitor(&every),
         0x20 => fault_statuses(&every.with("IL", [1]), &fault_codes(edition)),
         0x24 => data_aborts(&every, edition),
@@ -229,10 +233,13 @@ mod tests {
         let expected = [
             (0x00, 1),
             (0x22, 2),
-            (0x03, (2 * conditions) << 19),
-            (0x04, (2 * conditions) << 17),
-            (0x06, 2 * conditions * 256 * 16 * 2 * 10),
-            (0x07, 2 * conditions * 2),
+            (0x03, conditions << 19),
+            (0x04, conditions << 17),
+            (0x06, conditions * 256 * 16 * 2 * 10),
+            (0x07, conditions * 2),
+            (0x08, conditions << 18),
+            (0x0c, conditions << 16),
+            (0x11, (1 << 16) + 256),
         ];
         for (class, number) in expected {
             let mut seen = 0;

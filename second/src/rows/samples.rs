@@ -13,22 +13,22 @@ const SAMPLES: [&[u64]; 31] = [
     &[1, 1, 1, 0xe, 1],
     &[1, 0, 0, 0xf, 0],
     &[2, 0x03, 1, 1, 0xe, 0, 0, 0, 0, 0, 1],
-    &[2, 0x03, 0, 0, 0xf, 7, 7, 0xf, 0x1f, 0xf, 0],
-    &[2, 0x05, 0, 0, 5, 7, 7, 0xf, 0x1f, 0xf, 1],
+    &[2, 0x03, 1, 0, 0xf, 7, 7, 0xf, 0x1f, 0xf, 0],
+    &[2, 0x05, 1, 0, 5, 7, 7, 0xf, 0x1f, 0xf, 1],
     &[2, 0x08, 1, 1, 0, 2, 5, 9, 0x12, 6, 1],
     &[3, 0x04, 1, 1, 0xe, 0xf, 0x1f, 0x1f, 0xf, 0],
-    &[3, 0x0c, 0, 0, 0xf, 0, 0, 0, 0, 1],
+    &[3, 0x0c, 1, 0, 0xf, 0, 0, 0, 0, 1],
     &[3, 0x0c, 1, 1, 9, 6, 0x15, 0xa, 0xc, 1],
     &[4, 1, 1, 0xe, 0xff, 0x1f, 1, 3, 0],
-    &[4, 0, 0, 0xf, 0x5a, 7, 0, 4, 1],
+    &[4, 1, 0, 0xf, 0x5a, 7, 0, 4, 1],
     &[5, 1, 1, 0xe],
-    &[5, 0, 0, 0xf],
+    &[5, 1, 0, 0xf],
     &[6, 0x11, 1, 0],
-    &[6, 0x11, 0, 0xffff],
+    &[6, 0x11, 0, 0xff],
     &[6, 0x12, 1, 1],
     &[7, 1, 0, 0, 0],
     &[7, 1, 1, 0xe, 1],
-    &[7, 0, 0, 0xf, 1],
+    &[7, 1, 0, 0xf, 1],
     &[8, 1, 0, 0, 0, 0, 0x05],
     &[8, 1, 0, 0, 0, 1, 0x0d],
     &[8, 1, 3, 1, 1, 0, 0x10],
@@ -94,9 +94,26 @@ pub fn fields_too_large(record: &Record) -> Vec<Record> {
     records
 }
 
+/// Immediates around 8 bits, with either IL.
+pub fn calls(form: &Form) -> Vec<Record> {
+    let mut records = Vec::new();
+    for class in [0x11, 0x12] {
+        for il in [0, 1] {
+            for imm16 in [0, 1, 0xfe, 0xff, 0x100, 0x101, 0x1ff, 0x8000, 0xff00, 0xffff, 0x1_0000] {
+                records.extend(Record::from_row(form, &[6, class, il, imm16]));
+            }
+        }
+    }
+    records
+}
+
 /// The rules that tie fields of classes other than aborts to each other.
 pub fn tied_fields() -> Vec<Record> {
-    let mut records = Vec::new();
+    let mut records = calls(&LONG);
+    records.retain(|record| record.word().is_some());
+    for sample in samples().filter(|sample| sample.kind.has("Direction")) {
+        records.extend(sweep(&sample, "IL Direction"));
+    }
     for sample in samples().filter(|sample| sample.kind.has("COND")) {
         records.extend(sweep(&sample, "CV COND"));
     }

@@ -1,7 +1,7 @@
 //! Questions to the reader and the writer of the short form, and to the change
 //! of a short record to a long one.
 
-use super::samples::{field_limits, fields_too_large, random_record, sweep, with};
+use super::samples::{calls, field_limits, fields_too_large, random_record, sweep, with};
 use crate::call::Call;
 use crate::form::Record;
 use crate::random::Random;
@@ -16,15 +16,15 @@ const SAMPLES: [&[u64]; 24] = [
     &[0, 0x22, 0],
     &[1, 1, 1, 0xe, 1],
     &[2, 0x03, 1, 1, 0xe, 0, 0, 0, 0, 0, 1],
-    &[2, 0x05, 0, 0, 5, 7, 7, 0xf, 0xe, 0xf, 1],
+    &[2, 0x05, 1, 0, 5, 7, 7, 0xf, 0xe, 0xf, 1],
     &[2, 0x08, 1, 1, 0, 0, 7, 9, 0xd, 0, 1],
     &[3, 0x04, 1, 1, 0xe, 0xf, 0xd, 0xe, 0xf, 0],
-    &[3, 0x0c, 0, 0, 0xf, 0, 8, 0xc, 0, 1],
+    &[3, 0x0c, 1, 0, 0xf, 0, 8, 0xc, 0, 1],
     &[4, 1, 1, 0xe, 0xff, 0xe, 1, 3, 0],
-    &[4, 0, 0, 0xf, 0x5a, 0xf, 0, 4, 1],
+    &[4, 1, 0, 0xf, 0x5a, 0xf, 0, 4, 1],
     &[5, 1, 1, 0xe, 0, 0],
     &[5, 1, 0, 0xf, 1, 0xa],
-    &[6, 0x11, 1, 0],
+    &[6, 0x11, 0, 0xff],
     &[6, 0x12, 1, 0xffff],
     &[7, 1, 1, 0xe, 1],
     &[8, 1, 0, 0, 0, 0x05],
@@ -67,6 +67,10 @@ fn edges() -> Vec<Record> {
     records.extend(sweep(&record(&[4, 1, 1, 0xe, 0x81, 0xb, 1, 0, 0]), "AM Direction"));
     records.extend(sweep(&record(&[5, 1, 1, 0xe, 0, 0]), "TA coproc"));
     records.extend(sweep(&record(&[7, 1, 0, 0, 0]), "CCKNOWNPASS CV COND"));
+    records.extend(calls(&SHORT));
+    for sample in samples().filter(|sample| sample.kind.has("Direction")) {
+        records.extend(sweep(&sample, "IL Direction"));
+    }
     let fetch = record(&[8, 1, 0, 0, 0, 0x05]);
     let plain = record(&[9, 1, 0, 0, 0, 0, 0, 0, 0, 0, 0, 0, 0x05]);
     let valid = record(&[9, 1, 1, 2, 0, 3, 0, 0, 0, 0, 0, 0, 0x05]);

@@ -2,7 +2,9 @@
 //! other.
 
 use super::aborts::{fault_codes, fault_fields, random_abort};
-use super::samples::{field_limits, fields_too_large, random_record, samples, tied_fields, with};
+use super::samples::{
+    calls, field_limits, fields_too_large, random_record, samples, tied_fields, with,
+};
 use super::{aborts, Turn};
 use crate::call::Call;
 use crate::form::Record;
@@ -76,7 +78,7 @@ fn records_at_the_edges() -> Vec<Call> {
     let limits = samples().flat_map(|sample| field_limits(&sample));
     let large = samples().flat_map(|sample| fields_too_large(&sample));
     let tied = tied_fields().into_iter().chain(aborts::tied_fields());
-    let records = limits.chain(large).chain(tied);
+    let records = limits.chain(large).chain(calls(&LONG)).chain(tied);
     questions.extend(records.map(|record| Call::Write { edition: editions.next(), record }));
     questions
 }
