@@ -1,2 +1,4 @@
 pub mod Numbers
 pub mod Found
+pub mod Codec
+pub mod RoundTrip

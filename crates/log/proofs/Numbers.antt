@@ -3,12 +3,45 @@
 use mathlib.Core.Path.{_≡_, refl, sym, ap, _∙_}
 use mathlib.Core.List.{List, [], _∷_, _++_}
 use Prim.Native.Nat.{ℕ, zero, suc, _+_, _*_, _/_, _%_, _^_, _≤_, _<_}
-use native.Mathlib.Nat.{zero-add, one-mul, mul-assoc, mul-add, add-assoc, pow-zero, pow-succ'}
+use native.Mathlib.Nat.{zero-add, one-mul, mul-assoc, pow-zero, pow-suc, pow-succ', div-lt-iff-lt-mul}
 use native.Mathlib.Numerals.{add-one}
 use native.Mathlib.Omega.{arith}
+use lib.Dec.{lit<}
 use lib.ListN.{length, take, drop, getD, length-drop}
-use lib.Seq.{drop-cons, take-add, length-take-le, drop-drop}
-use Rattle.log.specs.Number.{little, number}
+use lib.Seq.{drop-cons, take-add, length-take-le, drop-drop, getD-drop}
+use Rattle.log.specs.Number.{little, number, Bytes}
+
+pub length-little : (width n : ℕ) → length (little width n) ≡ width
+unfolding little
+length-little zero n = refl
+length-little (suc width) n = ap suc (length-little width (n / 256))
+
+-- a number that fits comes back from its bytes
+pub number-little : (width n : ℕ) → n < 256 ^ width → number (little width n) ≡ n
+unfolding little number
+number-little zero n h = omega (arith, pow-zero 256)
+number-little (suc width) n h =
+    let small : n / 256 < 256 ^ width = div-lt-iff-lt-mul (lit< tt) .1 (rw pow-suc at h) in
+    omega (arith, number-little width (n / 256) small)
+
+-- bytes come back from their number
+pub bytes-drop : (n : ℕ) (s : List ℕ) → Bytes s → Bytes (drop n s)
+bytes-drop n s b i = rw getD-drop (b (n + i))
+
+-- the first bytes are bytes too: past them there is 0
+pub bytes-take : (n : ℕ) (s : List ℕ) → Bytes s → Bytes (take n s)
+bytes-take zero s b i = lit< tt
+bytes-take (suc n) [] b i = lit< tt
+bytes-take (suc n) (byte ∷ rest) b zero = b zero
+bytes-take (suc n) (byte ∷ rest) b (suc i) = bytes-take n rest (λ j. b (suc j)) i
+
+pub little-number : (s : List ℕ) → Bytes s → little (length s) (number s) ≡ s
+unfolding little number
+little-number [] b = refl
+little-number (byte ∷ rest) b =
+    let low : (byte + 256 * number rest) % 256 ≡ byte = omega (arith, b 0) in
+    let high : (byte + 256 * number rest) / 256 ≡ number rest = omega (arith, b 0) in
+    rw (low, high) (ap (λ (xs : List ℕ). byte ∷ xs) (little-number rest (λ i. b (suc i))))
 
 -- bytes after bytes
 pub number-append : (xs ys : List ℕ) → number (xs ++ ys) ≡ number xs + 256 ^ length xs * number ys
