@@ -56,6 +56,10 @@ next : (n : ℕ) (s : List ℕ) (at after : ℕ) → after ≡ at + 1 → at < l
 unfolding number
 next n s at after e h = rw (e, add-one at, drop-cons s at 0)
 
+pub number-one : (s : List ℕ) (at : ℕ) → at < length s → getD s at 0 ≡ number (take 1 (drop at s))
+unfolding number
+number-one s at h = omega (arith, next 0 s at (at + 1) refl h)
+
 -- four bytes, one by one
 pub number-four : (s : List ℕ) (at : ℕ) → at + 4 ≤ length s
     → number (take 4 (drop at s)) ≡ getD s at 0 + 256 * (getD s (at + 1) 0 + 256 * (getD s (at + 2) 0 + 256 * getD s (at + 3) 0))

@@ -2,3 +2,4 @@ pub mod Number
 pub mod Section
 pub mod Log
 pub mod Answer
+pub mod Look

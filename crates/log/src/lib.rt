@@ -6,6 +6,7 @@ ghost use mathlib.Core.Path.{_≡_};
 ghost use Rattle.log.specs.Answer.{readOf};
 
 mod answer;
+mod entry;
 mod number;
 mod section;
 mod sections;
@@ -14,6 +15,12 @@ pub use answer::Read;
 pub use answer::gone_in;
 pub use answer::number_of;
 pub use answer::section_in;
+pub use entry::Entry;
+pub use entry::Look;
+pub use entry::Place;
+pub use entry::look_at;
+pub use entry::skip;
+pub use section::Section;
 
 // The longest log: 65,536 bytes.
 pub const MOST: usize = 65536;
