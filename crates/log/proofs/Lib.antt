@@ -3,3 +3,5 @@ pub mod Found
 pub mod Places
 pub mod Codec
 pub mod RoundTrip
+pub mod Given
+pub mod Answers

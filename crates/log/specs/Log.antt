@@ -10,6 +10,9 @@ pub record Address : Type 0 where
   pub far : ℕ
   pub hpfar : ℕ
 
+abbrev pub nowhere : Address
+nowhere = record { far = 0; hpfar = 0 }
+
 -- what a log carries
 pub record Entries : Type 0 where
   pub editions : List ℕ

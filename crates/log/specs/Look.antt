@@ -5,7 +5,7 @@ use mathlib.Core.List.{List}
 use lib.Dec.{leb, ltb}
 use lib.ListN.{length, drop, getD}
 use Rattle.log.specs.Section.{sizes, endOf, sectionOf, restAfter}
-use Rattle.log.specs.Log.{byteIn, wordIn}
+use Rattle.log.specs.Log.{Entries, byteIn, wordIn, nowhere}
 use Rattle.log.specs.declared.section.Section.{Section}
 use Rattle.log.specs.declared.entry.Place.{Place}
 use Rattle.log.specs.declared.entry.Entry.{Entry}
@@ -45,3 +45,10 @@ lookAt s passed at i = record { section = sectionAt s passed at; entry = entryOf
 abbrev pub startAfter : List ℕ → ℕ → ℕ
 startAfter s zero = 0
 startAfter s (suc n) = startAfter s n + endOf (getD sizes n 0) (restAfter s n)
+
+-- entry i of section n + 1, of the entries of a log
+abbrev pub entryGiven : Entries → ℕ → ℕ → Entry
+entryGiven e zero i = Entry.Edition (getD (e .editions) i 0)
+entryGiven e (suc zero) i = Entry.Syndrome (getD (e .syndromes) i 0)
+entryGiven e (suc (suc zero)) i = Entry.Address (getD (e .addresses) i nowhere .far) (getD (e .addresses) i nowhere .hpfar)
+entryGiven e (suc (suc (suc n))) i = Entry.Injection (getD (e .injections) i 0)
