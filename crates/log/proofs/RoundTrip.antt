@@ -57,7 +57,7 @@ pub record PairFits (a : Address) : Type 0 where
   pub far : Fitting 8 (a .far)
   pub hpfar : Fitting 8 (a .hpfar)
 
-pair-sized : (a : Address) → length (pair a) ≡ 16
+pub pair-sized : (a : Address) → length (pair a) ≡ 16
 pair-sized a = rw (length-append, length-little 8 (a .far), length-little 8 (a .hpfar))
 
 pair-back : (a : Address) (rest : List ℕ) → PairFits a → pairIn (pair a ++ rest) ≡ a
@@ -73,6 +73,9 @@ pair-again : (s : List ℕ) → Bytes s → 16 ≤ length s → pair (pairIn s) 
 pair-again s b h =
     rw (number-again 8 s b (omega arith), number-again 8 (drop 8 s) (bytes-drop 8 s b) (rw length-drop (omega arith)))
     (sym (take-add 8 8 s))
+
+pub pairs-length : (entries : List Address) → length (sectionBytes pair entries) ≡ 4 + length entries * 16
+pairs-length = section-length 16 pair pairIn PairFits pair-sized pair-back pair-again
 
 -- what `Accepted` says of a log
 pub record Accepts (s : List ℕ) (gone : ℕ) : Type 0 where
@@ -169,7 +172,7 @@ log-length e =
       length-append (sectionBytes pair (e .addresses)) fourth,
       numbers-length 1 (e .editions),
       numbers-length 8 (e .syndromes),
-      section-length 16 pair pairIn PairFits pair-sized pair-back pair-again (e .addresses),
+      pairs-length (e .addresses),
       numbers-length 1 (e .injections),
     )
 
