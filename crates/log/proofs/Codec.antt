@@ -34,6 +34,10 @@ pub record Stands {A : Type 0} (size : ℕ) (read : List ℕ → A) (entries : L
   pub after : afterOf size s ≡ rest
   pub back : entriesIn size read (countOf s) (drop 4 s) ≡ entries
 
+pub entries-count : {A : Type 0} (size : ℕ) (read : List ℕ → A) (n : ℕ) (s : List ℕ) → length (entriesIn size read n s) ≡ n
+entries-count size read zero s = refl
+entries-count size read (suc n) s = ap suc (entries-count size read n (drop size s))
+
 -- a kind of entry: its size, its bytes, and the entry that some bytes begin with
 module _ {A : Type 0} (size : ℕ) (bytes : A → List ℕ) (read : List ℕ → A) (Fits : A → Type 0)
     (sized : (a : A) → length (bytes a) ≡ size)
@@ -49,10 +53,6 @@ module _ {A : Type 0} (size : ℕ) (bytes : A → List ℕ) (read : List ℕ →
   entries-back (a ∷ more) rest f =
       rw (append-assoc (bytes a) (entryBytes bytes more) rest, back a (entryBytes bytes more ++ rest) (f .0), drop-at (bytes a) (entryBytes bytes more ++ rest) size (sized a))
       (ap (λ (after : List A). a ∷ after) (entries-back more rest (f .1)))
-
-  pub entries-count : (n : ℕ) (s : List ℕ) → length (entriesIn size read n s) ≡ n
-  entries-count zero s = refl
-  entries-count (suc n) s = ap suc (entries-count n (drop size s))
 
   pub entries-again : (n : ℕ) (s : List ℕ) → Bytes s → n * size ≤ length s → entryBytes bytes (entriesIn size read n s) ≡ take (n * size) s
   entries-again zero s b h = rw zero-mul

@@ -12,13 +12,13 @@ use lib.ListN.{length, take, drop, getD, length-append, length-drop}
 use lib.Seq.{take-at, drop-at, take-add, take-append-le, length-take-le}
 use Rattle.log.specs.Number.{little, number, Bytes}
 use Rattle.log.specs.Section.{sizes, countOf, endOf, wholeOf, afterOf, restAfter, countAfter, wholeAfter}
-use Rattle.log.specs.Log.{Address, Entries, byte, word, pair, byteIn, wordIn, pairIn, sectionBytes, entriesIn, logOf, entriesOf, goneThrough}
+use Rattle.log.specs.Log.{Address, Entries, byte, word, pair, byteIn, wordIn, pairIn, sectionBytes, entriesIn, logOf, bodyAfter, entriesOf, goneThrough}
 use Rattle.log.specs.Answer.{numberOf, goneIn, needs, readOf}
 use Rattle.log.specs.declared.answer.Read.{Read}
 use Rattle.log.specs.declared.answer.Read.the-variants.{Accepted, TooLong, CutShort, LeftOver, Unequal}
 use Rattle.log.proofs.Numbers.{length-little, number-little, little-number, bytes-drop, bytes-take}
 use Rattle.log.proofs.Found.{Whole, whole-is}
-use Rattle.log.proofs.Codec.{Each, Stands, section-length, section-stands, section-again}
+use Rattle.log.proofs.Codec.{Each, Stands, section-length, section-stands, section-again, entries-count}
 
 none : (l : List ℕ) → length l ≡ 0 → l ≡ []
 none [] h = refl
@@ -148,6 +148,12 @@ module _ (s : List ℕ) (b : Bytes s) where
       let second = numbers-again 8 (restAfter s 1) (bytes-after 1) (a .syndromes) in
       let first = numbers-again 1 s b (a .editions) in
       rw (fourth, third, second, first)
+
+-- its syndromes and addresses agree
+pub entries-agree : (s : List ℕ) {gone : ℕ} → readOf s ≡ Accepted gone → length (entriesOf s .syndromes) ≡ length (entriesOf s .addresses)
+unfolding entriesOf
+entries-agree s e =
+    entries-count 8 wordIn (countAfter s 1) (bodyAfter s 1) ∙ accepts s e .agree ∙ sym (entries-count 16 pairIn (countAfter s 2) (bodyAfter s 2))
 
 -- what the writer's slices and tests make sure of entries: they fit, syndromes and addresses agree, and the log is not too long
 pub record Writable (e : Entries) : Type 0 where

@@ -28,6 +28,15 @@ paired [] hpfars = []
 paired (far ∷ fars) [] = []
 paired (far ∷ fars) (hpfar ∷ hpfars) = record { far = far; hpfar = hpfar } ∷ paired fars hpfars
 
+-- and back: the two lists of some addresses
+abbrev pub farsOf : List Address → List ℕ
+farsOf [] = []
+farsOf (a ∷ rest) = a .far ∷ farsOf rest
+
+abbrev pub hpfarsOf : List Address → List ℕ
+hpfarsOf [] = []
+hpfarsOf (a ∷ rest) = a .hpfar ∷ hpfarsOf rest
+
 module _ (editions syndromes fars hpfars injections : List ℕ) where
   abbrev pub entriesFrom : Entries
   entriesFrom = record { editions = editions; syndromes = syndromes; addresses = paired fars hpfars; injections = injections }
