@@ -57,8 +57,9 @@ count-cut size s h = sym (simp (lt-leb 4 (length s) h))
 pub entries-cut : (size : ℕ) (s : List ℕ) → 4 ≤ length s → length s < endOf size s → Section.None ≡ sectionOf size s
 entries-cut size s h k = sym (simp (le-leb 4 (length s) h, lt-leb (endOf size s) (length s) k))
 
-pub is-found : (size : ℕ) (s : List ℕ) → 4 ≤ length s → endOf size s ≤ length s → Section.Whole (countOf s) (endOf size s) ≡ sectionOf size s
-is-found size s h k = sym (simp (le-leb 4 (length s) h, le-leb (endOf size s) (length s) k))
+pub is-found : (size : ℕ) (s : List ℕ) (count end : ℕ) → 4 ≤ length s → count ≡ countOf s → end ≡ endOf size s → endOf size s ≤ length s
+    → Section.Whole count end ≡ sectionOf size s
+is-found size s count end h p q k = rw (p, q) (sym (simp (le-leb 4 (length s) h, le-leb (endOf size s) (length s) k)))
 
 -- a section that was found: the rest of the bytes is what is handed on, and both together are no more than there was
 module _ (size : ℕ) (some : 0 < size) (s : List ℕ) {count end : ℕ} (f : Found size s count end) where

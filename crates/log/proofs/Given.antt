@@ -58,7 +58,7 @@ module _ (s : List ℕ) {gone : ℕ} (e : readOf s ≡ Accepted gone) where
       let w = whole-section n h in
       sym (place-in s n (startAfter s n) h (start-within n (omega arith)))
       ∙ ap (sectionOf (getD sizes n 0)) (sym (rest-at s n))
-      ∙ sym (is-found (getD sizes n 0) (restAfter s n) (w .counted) (w .within))
+      ∙ sym (is-found (getD sizes n 0) (restAfter s n) (countAfter s n) (endOf (getD sizes n 0) (restAfter s n)) (w .counted) refl refl (w .within))
 
   -- the reader that moves past n sections stands at section n + 1
   pub moved-to : (n k : ℕ) → k + n ≤ 4

@@ -5,11 +5,12 @@ use Rattle.log.specs.Look.{skipFrom, lookAt}
 use Rattle.log.specs.declared.entry.Place.{Place}
 use Rattle.log.specs.declared.entry.Look.{Look}
 
-abbrev pub origin : Place
-origin = record { passed = 0; at = 0 }
+-- the place n sections on from another, or as many as are whole
+abbrev pub placeFrom : List ℕ → ℕ → ℕ → ℕ → Place
+placeFrom s passed at n = skipFrom s n record { passed = passed; at = at }
 
 abbrev pub placeAfter : List ℕ → ℕ → Place
-placeAfter s n = skipFrom s n origin
+placeAfter s n = placeFrom s 0 0 n
 
 abbrev pub lookIn : List ℕ → ℕ → ℕ → Look
 lookIn s n i = lookAt s (placeAfter s n .passed) (placeAfter s n .at) i

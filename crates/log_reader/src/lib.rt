@@ -2,8 +2,8 @@
 //
 // Whether the log is accepted is for `log::read` to say: of any bytes, the reader gives what stands in the sections that are whole.
 ghost use mathlib.Core.Path.{_≡_};
-ghost use Rattle.log.specs.Look.{skipFrom, lookAt};
-ghost use Rattle.log_reader.specs.Reader.{lookIn};
+ghost use Rattle.log.specs.Look.{lookAt};
+ghost use Rattle.log_reader.specs.Reader.{placeFrom, lookIn};
 use log::Look;
 
 pub struct LogReader<'a> {
@@ -26,7 +26,7 @@ pub fn open<'a>(log: &'a [u8]) -> LogReader<'a>
 
 // The reader past n sections, or as many as are whole.
 pub fn past<'a>(r: LogReader<'a>, n: u32) -> LogReader<'a>
-    ensures { λ t. ⌜ (t .log ≡ r .entry .log) × (t .passed ≡ skipFrom (now (r .entry .log)) n record { passed = r .entry .passed; at = r .entry .at } .passed) × (t .at ≡ skipFrom (now (r .entry .log)) n record { passed = r .entry .passed; at = r .entry .at } .at) ⌝ }
+    ensures { λ t. ⌜ (t .log ≡ r .entry .log) × (t .passed ≡ placeFrom (now (r .entry .log)) (r .entry .passed) (r .entry .at) n .passed) × (t .at ≡ placeFrom (now (r .entry .log)) (r .entry .passed) (r .entry .at) n .at) ⌝ }
 {
     let p = log::skip(r.log, r.passed, r.at, n);
     LogReader {

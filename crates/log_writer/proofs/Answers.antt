@@ -9,7 +9,7 @@ use Rattle.log_writer.specs.declared.Written.{Written}
 use Rattle.log_writer.specs.declared.Written.the-variants.{Log, TooLong, Unequal, NoRoom}
 
 pub write-numbers : (a : Written) → (numberOf a ≡ 0) ⊎ ((15 ≤ numberOf a) × (numberOf a ≤ 17) × (lengthIn a ≡ 0))
-write-numbers (Log length) = inl refl
+write-numbers (Log n) = inl refl
 write-numbers Unequal = inr (lit≤ tt, lit≤ tt, refl)
 write-numbers TooLong = inr (lit≤ tt, lit≤ tt, refl)
 write-numbers NoRoom = inr (lit≤ tt, lit≤ tt, refl)

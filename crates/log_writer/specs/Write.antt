@@ -9,14 +9,14 @@ use Rattle.log_writer.specs.declared.Written.{Written}
 use Rattle.log_writer.specs.declared.Written.the-variants.{Log, TooLong, Unequal, NoRoom}
 
 abbrev pub numberOf : Written → ℕ
-numberOf (Log length) = 0
+numberOf (Log n) = 0
 numberOf Unequal = 15
 numberOf TooLong = 16
 numberOf NoRoom = 17
 
 -- the length of the log that was written, and 0 on a refusal
 abbrev pub lengthIn : Written → ℕ
-lengthIn (Log length) = length
+lengthIn (Log n) = n
 lengthIn Unequal = 0
 lengthIn TooLong = 0
 lengthIn NoRoom = 0
@@ -63,7 +63,7 @@ writtenOf editions syndromes fars hpfars injections room =
 
 -- a log that was written stands at the front and what lies past it stays; a refusal leaves the whole buffer as it was
 abbrev pub bufferAfter : Written → List ℕ → List ℕ → List ℕ
-bufferAfter (Log length) log before = log ++ drop length before
+bufferAfter (Log n) log before = log ++ drop n before
 bufferAfter Unequal log before = before
 bufferAfter TooLong log before = before
 bufferAfter NoRoom log before = before

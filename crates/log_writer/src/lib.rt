@@ -35,7 +35,7 @@ pub fn length_in(answer: Written) -> usize
     ensures { λ n. ⌜ n ≡ lengthIn answer ⌝ }
 {
     match answer {
-        Written::Log(length) => length,
+        Written::Log(n) => n,
         Written::Unequal => 0,
         Written::TooLong => 0,
         Written::NoRoom => 0,

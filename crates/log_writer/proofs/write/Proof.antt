@@ -25,7 +25,7 @@ length-by-requires c κs = search needs
 measured : (c : tie.After-length-by)
     → c .length-by .result
     ≡ min (lengthBy (now (c .before .before .before .before .before .before .before .before .args .editions)) (now (c .before .before .before .before .before .before .before .before .args .syndromes)) (now (c .before .before .before .before .before .before .before .before .args .fars)) (now (c .before .before .before .before .before .before .before .before .args .hpfars)) (now (c .before .before .before .before .before .before .before .before .args .injections))) 65537
-measured c = c .length-by .ensures ∙ rw (c .before .larger .ensures)
+measured c = omega (arith, c .length-by .ensures, c .before .larger .ensures)
 
 returns : tie.Need-returns
 returns c =

@@ -1,4 +1,4 @@
-use mathlib.Core.Path.{_≡_, refl, sym, ap, _∙_}
+use mathlib.Core.Path.{_≡_, ap}
 use mathlib.Core.List.{List}
 use Prim.Native.Nat.{ℕ, _+_, _*_, _^_, _≤_, _<_}
 use native.Mathlib.Nat.{mul-le-mul}
@@ -7,7 +7,6 @@ use denote.Ref.{now}
 use lib.ListN.{take}
 use Rattle.log.specs.Number.{number}
 use Rattle.log.specs.Section.{countOf}
-use Rattle.log.specs.declared.section.Section.{Section}
 use Rattle.log.proofs.Found.{count-cut, entries-cut, is-found}
 use borrow.Author.Needs.{needs}
 use Rattle.log.proofs.section.front.Statement.{statement}
@@ -38,16 +37,20 @@ add-end c = record { fits = omega (arith, product (c .four .ensures .1) (c .befo
 
 returns-2 : tie.Need-returns-2
 returns-2 c =
-    let a = c .before .before .before .before .args in
-    let n = counted (now (a .rest)) (c .before .four .ensures .0) in
-    entries-cut (a .size) (now (a .rest)) (c .before .before .if1 .left) (rw n at (c .if2 .taken))
+    let e = c .before .before .before .before in
+    let size = e .args .size in
+    let n = counted (now (e .args .rest)) (c .before .four .ensures .0) in
+    entries-cut size (now (e .args .rest)) (c .before .before .if1 .left)
+    (omega (arith, c .if2 .taken, ap (λ m. m * size) n, product (c .before .four .ensures .1) (e .fits .size .fits)))
 
 returns-3 : tie.Need-returns-3
 returns-3 c =
-    let a = c .before .before .before .before .args in
-    let n = counted (now (a .rest)) (c .before .four .ensures .0) in
-    ap (λ m. Section.Whole m (4 + m * a .size)) n
-    ∙ is-found (a .size) (now (a .rest)) (c .before .before .if1 .left) (rw n at (c .if2 .left))
+    let e = c .before .before .before .before in
+    let size = e .args .size in
+    let n = counted (now (e .args .rest)) (c .before .four .ensures .0) in
+    let p = product (c .before .four .ensures .1) (e .fits .size .fits) in
+    is-found size (now (e .args .rest)) _ _ (c .before .before .if1 .left) n (omega (arith, ap (λ m. m * size) n, p))
+    (omega (arith, c .if2 .left, ap (λ m. m * size) n, p))
 
 pub front-spec : {M : Type 1} → statement M
 front-spec = tie.close (tie.spec returns four-requires mul-end add-end returns-2 returns-3)
