@@ -1,79 +1,104 @@
 // Reads a trap log from standard input and shows it as lines of text.
 //
-// One byte more than a log may have is enough to refuse an input of any length: it is read no further, and held in one buffer.
+// One byte more than a log may have is enough to refuse an input of any length: no more is read, and all of it is held in one buffer.
+mod entries;
+
+use entries::Seen;
 use libc::STDIN_FILENO;
 use libc::STDOUT_FILENO;
 use log::Entry;
 use log::Read;
-use log::Section;
 
-// The most bytes of a line: five numbers of 20 digits with their words.
-const LINE: usize = 160;
-
-// Whether an edition is among those seen, for each edition that is known.
-struct Seen {
-    edition: [bool; 16],
-}
-
-// The count of a section, by how many sections lie before it.
-fn count_of(log: &[u8], passed: u32) -> usize {
-    let found = log_reader::look_in(log, passed, 0);
-    let section = found.section;
-    match section {
-        Section::Whole { count, end: _ } => count,
-        Section::None => 0,
+// Writes the first bytes of a line's buffer.
+fn put(line: &[u8], end: usize) {
+    if end <= line.len() {
+        io::write_all(STDOUT_FILENO, &line[..end]);
     }
 }
 
-fn entry_of(log: &[u8], passed: u32, i: usize) -> Entry {
-    let found = log_reader::look_in(log, passed, i);
-    found.entry
+fn edition_at(log: &[u8], line: &mut [u8], i: usize) {
+    if let Entry::Edition(edition) = entries::entry(log, 0, i) {
+        let end = log_text::edition_line(line, 0, edition);
+        put(line, end);
+    }
 }
 
-// Writes the editions seen, and gives which of them are known, each once.
-fn editions(log: &[u8], line: &mut [u8]) -> Seen {
-    let mut seen = [false; 16];
-    let count = count_of(log, 0);
+// The editions seen, in the log's order.
+fn editions(log: &[u8], line: &mut [u8]) {
+    let count = entries::count(log, 0);
     let mut i = 0;
     while i < count {
-        let entry = entry_of(log, 0, i);
-        match entry {
-            Entry::Edition(e) => {
-                let end = log_text::edition_line(line, 0, e);
-                io::write_all(STDOUT_FILENO, &line[..end]);
-                if edition::known(e as u32) {
-                    let at = e as usize;
-                    if at < 16 {
-                        seen[at] = true;
-                    }
-                }
-            }
-            Entry::Syndrome(_) => (),
-            Entry::Address { far: _, hpfar: _ } => (),
-            Entry::Injection(_) => (),
-            Entry::None => (),
-        }
+        edition_at(log, line, i);
         i += 1;
     }
-    Seen { edition: seen }
+}
+
+fn answer_in(line: &mut [u8], seen: Seen, edition: u32, esr: u64, far: u64, hpfar: u64) {
+    if entries::has(seen, edition) {
+        let end = log_text::shown_line(line, 0, edition, esr, far, hpfar);
+        put(line, end);
+    }
+}
+
+// A trap's answer in each known edition among those seen, each edition once.
+fn answers(line: &mut [u8], seen: Seen, esr: u64, far: u64, hpfar: u64) {
+    let mut e: u32 = 0;
+    while e < edition::EDITIONS {
+        answer_in(line, seen, e, esr, far, hpfar);
+        e += 1;
+    }
+}
+
+// A trap: its registers, and its answers.
+fn trap_at(log: &[u8], line: &mut [u8], seen: Seen, i: usize) {
+    if let Entry::Syndrome(esr) = entries::entry(log, 1, i) {
+        if let Entry::Address { far, hpfar } = entries::entry(log, 2, i) {
+            let end = log_text::words_line(line, 0, esr, far, hpfar);
+            put(line, end);
+            answers(line, seen, esr, far, hpfar);
+        }
+    }
+}
+
+fn traps(log: &[u8], line: &mut [u8]) {
+    let seen = entries::known_editions(log);
+    let count = entries::count(log, 1);
+    let mut i = 0;
+    while i < count {
+        trap_at(log, line, seen, i);
+        i += 1;
+    }
+}
+
+fn injection_at(log: &[u8], line: &mut [u8], i: usize) {
+    if let Entry::Injection(injection) = entries::entry(log, 3, i) {
+        let end = log_text::injection_line(line, 0, injection);
+        put(line, end);
+    }
+}
+
+fn injections(log: &[u8], line: &mut [u8]) {
+    let count = entries::count(log, 3);
+    let mut i = 0;
+    while i < count {
+        injection_at(log, line, i);
+        i += 1;
+    }
 }
 
 fn main() {
     let mut space = [0u8; 65537];
     let n = io::read_full(STDIN_FILENO, &mut space);
     let log = &space[..n];
-    let mut buffer = [0u8; LINE];
+    // A line has at most five numbers of 20 digits, and their words.
+    let mut buffer = [0u8; 160];
     let line: &mut [u8] = &mut buffer;
     let answer = log::read(log);
     let end = log_text::read_line(line, 0, answer);
-    io::write_all(STDOUT_FILENO, &line[..end]);
-    match answer {
-        Read::Accepted(_) => {
-            let seen = editions(log, line);
-        }
-        Read::TooLong => (),
-        Read::CutShort(_) => (),
-        Read::LeftOver => (),
-        Read::Unequal => (),
+    put(line, end);
+    if let Read::Accepted(_) = answer {
+        editions(log, line);
+        traps(log, line);
+        injections(log, line);
     }
 }
