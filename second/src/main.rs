@@ -10,6 +10,7 @@ mod edition;
 mod enumerate;
 mod guest;
 mod kinds;
+mod log;
 #[cfg(any(feature = "compare", test))]
 mod ordinary;
 #[cfg(feature = "compare")]

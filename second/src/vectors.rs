@@ -10,6 +10,7 @@ mod write;
 
 use crate::cases;
 use crate::catalogue::Catalogue;
+use crate::log;
 use crate::text::line;
 use std::fs;
 use std::io;
@@ -76,6 +77,11 @@ pub fn write(directory: &Path) -> io::Result<bool> {
         fs::write(path, &file.text)?;
         println!("{}: {} lines, {} bytes", file.name, file.lines, file.text.len());
     }
+    for (name, bytes) in log::files() {
+        fs::create_dir_all(directory.join(name).parent().unwrap_or(directory))?;
+        fs::write(directory.join(name), &bytes)?;
+        println!("{name}: {} bytes", bytes.len());
+    }
     Ok(true)
 }
 
@@ -92,6 +98,12 @@ pub fn check(directory: &Path) -> io::Result<bool> {
         let same = stored.is_ok_and(|bytes| bytes == file.text.as_bytes());
         let verdict = if same { "same" } else { "DIFFERENT OR MISSING" };
         println!("{}: {} lines, {verdict}", file.name, file.lines);
+        all_same &= same;
+    }
+    for (name, bytes) in log::files() {
+        let same = fs::read(directory.join(name)).is_ok_and(|stored| stored == bytes);
+        let verdict = if same { "same" } else { "DIFFERENT OR MISSING" };
+        println!("{name}: {} bytes, {verdict}", bytes.len());
         all_same &= same;
     }
     Ok(all_same)

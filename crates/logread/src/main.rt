@@ -12,7 +12,7 @@ use log::Read;
 // Writes the first bytes of a line's buffer.
 fn put(line: &[u8], end: usize) {
     if end <= line.len() {
-        io::write_all(STDOUT_FILENO, &line[..end]);
+        io::write_all(STDOUT_FILENO, &line[0..end]);
     }
 }
 
