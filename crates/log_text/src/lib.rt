@@ -3,21 +3,17 @@ ghost use mathlib.Core.List.{_++_};
 ghost use Rattle.text.specs.Ascii.{ascii};
 ghost use Rattle.text.specs.Append.{Appends};
 ghost use Rattle.log_text.specs.Lines.{decimalField, hexField, refusedText, readText, editionText, injectionText, wordsText};
-
-mod shown;
-
 use log::Read;
-pub use shown::shown_line;
 
 // Appends a space and a number.
-fn decimal_field(out: &mut [u8], at: usize, n: u64) -> usize
+pub fn decimal_field(out: &mut [u8], at: usize, n: u64) -> usize
     ensures { λ end. ⌜ Appends (decimalField n) (now (out .entry)) at (now (out .exit)) end ⌝ }
 {
     let space = text::append(out, at, b" ");
     text::append_decimal(out, space, n)
 }
 
-fn hex_field(out: &mut [u8], at: usize, n: u64) -> usize
+pub fn hex_field(out: &mut [u8], at: usize, n: u64) -> usize
     ensures { λ end. ⌜ Appends (hexField n) (now (out .entry)) at (now (out .exit)) end ⌝ }
 {
     let space = text::append(out, at, b" ");

@@ -35,7 +35,7 @@ fn editions(log: &[u8], line: &mut [u8]) {
 
 fn answer_in(line: &mut [u8], seen: Seen, edition: u32, esr: u64, far: u64, hpfar: u64) {
     if entries::has(seen, edition) {
-        let end = log_text::shown_line(line, 0, edition, esr, far, hpfar);
+        let end = trap_text::shown_line(line, 0, edition, esr, far, hpfar);
         put(line, end);
     }
 }

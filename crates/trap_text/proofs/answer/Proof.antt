@@ -1,10 +1,10 @@
--- `log_text::shown::answer` meets its contract: the text of the answer that was found.
+-- `trap_text::answer` meets its contract: the text of the answer that was found.
 -- Assumes nothing.
 use borrow.Author.Needs.{needs}
 use mathlib.Core.Path.{ap}
-use Rattle.log_text.specs.Shown.{answerText}
-use Rattle.log_text.proofs.shown.answer.Statement.{statement}
-use Rattle.log_text.proofs.shown.answer.Tie as tie
+use Rattle.trap_text.specs.Shown.{answerText}
+use Rattle.trap_text.proofs.answer.Statement.{statement}
+use Rattle.trap_text.proofs.answer.Tie as tie
 
 enum-known-a : tie.Need-enum-known-a
 enum-known-a c = search needs

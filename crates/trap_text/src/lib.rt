@@ -1,8 +1,8 @@
-// The whole trap's answer in an edition.
+// The whole trap's answer in an edition as a line of text, appended to a buffer as `text::append` does.
 ghost use Rattle.text.specs.Append.{Appends};
-ghost use Rattle.log_text.specs.Shown.{virtualText, intermediateText, trapText, refusalText, answerText, shownText};
-use super::decimal_field;
-use super::hex_field;
+ghost use Rattle.trap_text.specs.Shown.{virtualText, intermediateText, trapText, refusalText, answerText, shownText};
+use log_text::decimal_field;
+use log_text::hex_field;
 use syndrome::Esr;
 use trap::Answer;
 use trap::Far;

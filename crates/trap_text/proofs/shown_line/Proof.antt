@@ -1,9 +1,9 @@
--- `log_text::shown::shown_line` meets its contract: one text after another.
+-- `trap_text::shown_line` meets its contract: one text after another.
 -- Assumes nothing.
 use borrow.Author.Needs.{needs}
 use Rattle.text.proofs.Appending.{appends-both}
-use Rattle.log_text.proofs.shown.shown_line.Statement.{statement}
-use Rattle.log_text.proofs.shown.shown_line.Tie as tie
+use Rattle.trap_text.proofs.shown_line.Statement.{statement}
+use Rattle.trap_text.proofs.shown_line.Tie as tie
 
 slice-aggregate-append : tie.Need-slice-aggregate-append
 slice-aggregate-append c = search needs

@@ -1,9 +1,9 @@
--- `log_text::shown::refusal` meets its contract: one text after another.
+-- `trap_text::refusal` meets its contract: one text after another.
 -- Assumes nothing.
 use borrow.Author.Needs.{needs}
 use Rattle.text.proofs.Appending.{appends-both}
-use Rattle.log_text.proofs.shown.refusal.Statement.{statement}
-use Rattle.log_text.proofs.shown.refusal.Tie as tie
+use Rattle.trap_text.proofs.refusal.Statement.{statement}
+use Rattle.trap_text.proofs.refusal.Tie as tie
 
 slice-aggregate-append : tie.Need-slice-aggregate-append
 slice-aggregate-append c = search needs

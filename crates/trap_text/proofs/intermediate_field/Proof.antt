@@ -1,11 +1,11 @@
--- `log_text::shown::intermediate_field` meets its contract: an address that is not known adds nothing.
+-- `trap_text::intermediate_field` meets its contract: an address that is not known adds nothing.
 -- Assumes nothing.
 use borrow.Author.Needs.{needs}
 use mathlib.Core.Path.{ap}
 use Rattle.text.proofs.Appending.{appends-both, appends-none}
-use Rattle.log_text.specs.Shown.{intermediateText}
-use Rattle.log_text.proofs.shown.intermediate_field.Statement.{statement}
-use Rattle.log_text.proofs.shown.intermediate_field.Tie as tie
+use Rattle.trap_text.specs.Shown.{intermediateText}
+use Rattle.trap_text.proofs.intermediate_field.Statement.{statement}
+use Rattle.trap_text.proofs.intermediate_field.Tie as tie
 
 enum-told : tie.Need-enum-told
 enum-told c = search needs

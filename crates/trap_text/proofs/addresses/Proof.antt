@@ -1,11 +1,11 @@
--- `log_text::shown::addresses` meets its contract: each kind of trap has its addresses.
+-- `trap_text::addresses` meets its contract: each kind of trap has its addresses.
 -- Assumes nothing.
 use borrow.Author.Needs.{needs}
 use mathlib.Core.Path.{ap}
 use Rattle.text.proofs.Appending.{appends-both, appends-none}
-use Rattle.log_text.specs.Shown.{trapText}
-use Rattle.log_text.proofs.shown.addresses.Statement.{statement}
-use Rattle.log_text.proofs.shown.addresses.Tie as tie
+use Rattle.trap_text.specs.Shown.{trapText}
+use Rattle.trap_text.proofs.addresses.Statement.{statement}
+use Rattle.trap_text.proofs.addresses.Tie as tie
 
 slice-aggregate-append : tie.Need-slice-aggregate-append
 slice-aggregate-append c = search needs

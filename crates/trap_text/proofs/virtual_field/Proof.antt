@@ -1,11 +1,11 @@
--- `log_text::shown::virtual_field` meets its contract: an address that is not known adds nothing.
+-- `trap_text::virtual_field` meets its contract: an address that is not known adds nothing.
 -- Assumes nothing.
 use borrow.Author.Needs.{needs}
 use mathlib.Core.Path.{ap}
 use Rattle.text.proofs.Appending.{appends-both, appends-none}
-use Rattle.log_text.specs.Shown.{virtualText}
-use Rattle.log_text.proofs.shown.virtual_field.Statement.{statement}
-use Rattle.log_text.proofs.shown.virtual_field.Tie as tie
+use Rattle.trap_text.specs.Shown.{virtualText}
+use Rattle.trap_text.proofs.virtual_field.Statement.{statement}
+use Rattle.trap_text.proofs.virtual_field.Tie as tie
 
 enum-known-address : tie.Need-enum-known-address
 enum-known-address c = search needs
