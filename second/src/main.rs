@@ -10,6 +10,7 @@ mod compare;
 mod edition;
 mod form;
 mod guest;
+mod log;
 mod long;
 #[cfg(any(feature = "compare", test))]
 mod ordinary;

@@ -12,6 +12,7 @@ mod write;
 
 use crate::call::answers;
 use crate::cases;
+use crate::log;
 use std::fs;
 use std::io;
 use std::path::Path;
@@ -87,6 +88,10 @@ pub fn write(directory: &Path) -> io::Result<bool> {
         fs::write(directory.join(FOLDER).join(name), &bytes)?;
         println!("{FOLDER}/{name}: {} lines, {} bytes", count_lines(&bytes), bytes.len());
     }
+    for (name, bytes) in log::files() {
+        fs::write(directory.join(name), &bytes)?;
+        println!("{name}: {} bytes", bytes.len());
+    }
     Ok(true)
 }
 
@@ -103,6 +108,12 @@ pub fn check(directory: &Path) -> io::Result<bool> {
         let same = stored.is_ok_and(|stored| stored == bytes);
         let verdict = if same { "same" } else { "DIFFERENT OR MISSING" };
         println!("{FOLDER}/{name}: {} lines, {verdict}", count_lines(&bytes));
+        all_same &= same;
+    }
+    for (name, bytes) in log::files() {
+        let same = fs::read(directory.join(name)).is_ok_and(|stored| stored == bytes);
+        let verdict = if same { "same" } else { "DIFFERENT OR MISSING" };
+        println!("{name}: {} bytes, {verdict}", bytes.len());
         all_same &= same;
     }
     Ok(all_same)

@@ -1,0 +1,51 @@
+-- `check_log::main` is safe and ends: the measure is the number of turns that are left.
+-- Assumes nothing.
+use borrow.Author.Needs.{needs}
+use native.Mathlib.Omega.{arith}
+use Rattle.check_log.proofs.main.Statement.{statement}
+use Rattle.check_log.proofs.main.Tie as tie
+
+abbrev Inv-loop : tie.InvT-loop
+Inv-loop room₀ turns₀ room turns = Unit
+
+abbrev μ-loop : tie.MeasureT-loop
+μ-loop room₀ turns₀ room turns = turns
+
+slice-aggregate-room : tie.Need-slice-aggregate-room Inv-loop μ-loop
+slice-aggregate-room c = search needs
+
+loop-holds : tie.Need-loop-holds Inv-loop μ-loop
+loop-holds c = tt
+
+next-log-requires : tie.Need-next-log-requires Inv-loop μ-loop
+next-log-requires c κs = search needs
+
+sub-turns : tie.Need-sub-turns Inv-loop μ-loop
+sub-turns c = omega arith
+
+loop-less : tie.Need-loop-less Inv-loop μ-loop
+loop-less c = omega arith
+
+loop-again : tie.Need-loop-again Inv-loop μ-loop
+loop-again c = tt
+
+returns : tie.Need-returns Inv-loop μ-loop
+returns c = tt
+
+returns-2 : tie.Need-returns-2 Inv-loop μ-loop
+returns-2 c = tt
+
+pub main-spec : {M : Type 1} → statement M
+main-spec =
+    tie.close
+    (tie.spec
+    Inv-loop
+    μ-loop
+    slice-aggregate-room
+    loop-holds
+    next-log-requires
+    sub-turns
+    loop-less
+    loop-again
+    returns
+    returns-2)

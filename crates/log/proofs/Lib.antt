@@ -1,0 +1,7 @@
+pub mod Numbers
+pub mod Found
+pub mod Places
+pub mod Codec
+pub mod RoundTrip
+pub mod Given
+pub mod Answers

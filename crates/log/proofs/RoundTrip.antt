@@ -1,0 +1,234 @@
+-- The laws of request C-14 on the format: a log that is accepted is the log of its entries, and the log of any entries is accepted with them.
+-- Assumes nothing.
+use mathlib.Core.Path.{_≡_, refl, sym, ap, _∙_}
+use mathlib.Core.Bool.{Bool, true, false}
+use mathlib.Core.List.{List, [], _∷_, _++_, append-assoc, append-nil}
+use Prim.Native.Nat.{ℕ, zero, suc, _+_, _-_, _*_, _^_, _≤_, _<_}
+use native.Mathlib.Nat.{le-mul-of-pos-right}
+use native.Mathlib.Omega.{arith}
+use borrow.Author.Tests.{le-leb, leb-true, eq-eqb, eqb-true}
+use lib.Dec.{leb, eqb, lit<}
+use lib.ListN.{length, take, drop, getD, length-append, length-drop}
+use lib.Seq.{take-at, drop-at, take-add, take-append-le, length-take-le}
+use Rattle.log.specs.Number.{little, number, Bytes}
+use Rattle.log.specs.Section.{sizes, countOf, endOf, wholeOf, afterOf, restAfter, countAfter, wholeAfter}
+use Rattle.log.specs.Log.{Address, Entries, byte, word, pair, byteIn, wordIn, pairIn, sectionBytes, entriesIn, logOf, bodyAfter, entriesOf, goneThrough}
+use Rattle.log.specs.Answer.{numberOf, goneIn, needs, readOf}
+use Rattle.log.specs.declared.answer.Read.{Read}
+use Rattle.log.specs.declared.answer.Read.the-variants.{Accepted, TooLong, CutShort, LeftOver, Unequal}
+use Rattle.log.proofs.Numbers.{length-little, number-little, little-number, bytes-drop, bytes-take}
+use Rattle.log.proofs.Found.{Whole, whole-is}
+use Rattle.log.proofs.Codec.{Each, Stands, section-length, section-stands, section-again, entries-count}
+
+none : (l : List ℕ) → length l ≡ 0 → l ≡ []
+none [] h = refl
+none (x ∷ l) h = absurd (omega arith)
+
+-- numbers of so many bytes: an entry of the editions, the syndromes and the injections, and half of an address
+module _ (width : ℕ) where
+  abbrev pub Fitting : ℕ → Type 0
+  Fitting n = n < 256 ^ width
+
+  number-back : (n : ℕ) (rest : List ℕ) → Fitting n → number (take width (little width n ++ rest)) ≡ n
+  number-back n rest h = ap number (take-at (little width n) rest width (length-little width n)) ∙ number-little width n h
+
+  number-again : (s : List ℕ) → Bytes s → width ≤ length s → little width (number (take width s)) ≡ take width s
+  number-again s b h = rw (length-take-le width s h) at (little-number (take width s) (bytes-take width s b))
+
+  -- a section of such numbers
+  pub numbers-again : (s : List ℕ) → Bytes s → Whole width s
+      → sectionBytes (little width) (entriesIn width (λ x. number (take width x)) (countOf s) (drop 4 s)) ++ afterOf width s ≡ s
+  numbers-again = section-again width (little width) (λ x. number (take width x)) Fitting (length-little width) number-back number-again
+
+  pub numbers-last : (s : List ℕ) → Bytes s → Whole width s → length (afterOf width s) ≡ 0
+      → sectionBytes (little width) (entriesIn width (λ x. number (take width x)) (countOf s) (drop 4 s)) ≡ s
+  numbers-last s b w h =
+      let section : List ℕ = sectionBytes (little width) (entriesIn width (λ x. number (take width x)) (countOf s) (drop 4 s)) in
+      sym (append-nil section) ∙ ap (λ (l : List ℕ). section ++ l) (sym (none (afterOf width s) h)) ∙ numbers-again s b w
+
+  pub numbers-length : (entries : List ℕ) → length (sectionBytes (little width) entries) ≡ 4 + length entries * width
+  numbers-length = section-length width (little width) (λ x. number (take width x)) Fitting (length-little width) number-back number-again
+
+  pub numbers-stand : (entries : List ℕ) (rest s : List ℕ) → length entries < 2 ^ 32 → Each Fitting entries
+      → s ≡ sectionBytes (little width) entries ++ rest → Stands width (λ x. number (take width x)) entries s rest
+  numbers-stand = section-stands width (little width) (λ x. number (take width x)) Fitting (length-little width) number-back number-again
+
+pub record PairFits (a : Address) : Type 0 where
+  pub far : Fitting 8 (a .far)
+  pub hpfar : Fitting 8 (a .hpfar)
+
+pub pair-sized : (a : Address) → length (pair a) ≡ 16
+pair-sized a = rw (length-append, length-little 8 (a .far), length-little 8 (a .hpfar))
+
+pair-back : (a : Address) (rest : List ℕ) → PairFits a → pairIn (pair a ++ rest) ≡ a
+pair-back a rest f =
+    let e : pair a ++ rest ≡ little 8 (a .far) ++ (little 8 (a .hpfar) ++ rest) = append-assoc (little 8 (a .far)) (little 8 (a .hpfar)) rest in
+    let far : wordIn (pair a ++ rest) ≡ a .far = ap wordIn e ∙ number-back 8 (a .far) (little 8 (a .hpfar) ++ rest) (f .far) in
+    let hpfar : wordIn (drop 8 (pair a ++ rest)) ≡ a .hpfar =
+    ap (λ (s : List ℕ). wordIn (drop 8 s)) e ∙ ap wordIn (drop-at (little 8 (a .far)) (little 8 (a .hpfar) ++ rest) 8 (length-little 8 (a .far)))
+    ∙ number-back 8 (a .hpfar) rest (f .hpfar) in
+    rw (far, hpfar)
+
+pair-again : (s : List ℕ) → Bytes s → 16 ≤ length s → pair (pairIn s) ≡ take 16 s
+pair-again s b h =
+    rw (number-again 8 s b (omega arith), number-again 8 (drop 8 s) (bytes-drop 8 s b) (rw length-drop (omega arith)))
+    (sym (take-add 8 8 s))
+
+pub pairs-length : (entries : List Address) → length (sectionBytes pair entries) ≡ 4 + length entries * 16
+pairs-length = section-length 16 pair pairIn PairFits pair-sized pair-back pair-again
+
+-- what `Accepted` says of a log
+pub record Accepts (s : List ℕ) (gone : ℕ) : Type 0 where
+  pub short : length s ≤ 65536
+  pub editions : Whole 1 (restAfter s 0)
+  pub syndromes : Whole 8 (restAfter s 1)
+  pub addresses : Whole 16 (restAfter s 2)
+  pub injections : Whole 1 (restAfter s 3)
+  pub none-left : length (restAfter s 4) ≡ 0
+  pub agree : countAfter s 1 ≡ countAfter s 2
+  pub told : gone ≡ goneThrough s
+
+-- a test that stands before an accepted answer passed
+passed : (t : Bool) (refusal next : Read) {gone : ℕ} → (numberOf refusal ≡ 0 → ⊥) → needs t refusal next ≡ Accepted gone
+    → (t ≡ true) × (next ≡ Accepted gone)
+passed true refusal next never e = (refl, e)
+passed false refusal next never e = absurd (never (ap numberOf e))
+
+pub accepts : (s : List ℕ) {gone : ℕ} → readOf s ≡ Accepted gone → Accepts s gone
+unfolding readOf
+accepts s {gone} e =
+    let a = passed (leb (length s) 65536) TooLong _ (λ z. omega arith) e in
+    let b = passed (wholeAfter s 0) (CutShort 1) _ (λ z. omega arith) (a .1) in
+    let c = passed (wholeAfter s 1) (CutShort 2) _ (λ z. omega arith) (b .1) in
+    let d = passed (wholeAfter s 2) (CutShort 3) _ (λ z. omega arith) (c .1) in
+    let f = passed (wholeAfter s 3) (CutShort 4) _ (λ z. omega arith) (d .1) in
+    let g = passed (eqb (length (restAfter s 4)) 0) LeftOver _ (λ z. omega arith) (f .1) in
+    let h = passed (eqb (countAfter s 1) (countAfter s 2)) Unequal _ (λ z. omega arith) (g .1) in
+    record {
+      short = leb-true (length s) 65536 (a .0);
+      editions = whole-is 1 (restAfter s 0) (b .0);
+      syndromes = whole-is 8 (restAfter s 1) (c .0);
+      addresses = whole-is 16 (restAfter s 2) (d .0);
+      injections = whole-is 1 (restAfter s 3) (f .0);
+      none-left = eqb-true (length (restAfter s 4)) 0 (g .0);
+      agree = eqb-true (countAfter s 1) (countAfter s 2) (h .0);
+      told = sym (ap goneIn (h .1));
+    }
+
+-- THE NUMBER GONE THROUGH is the one that the log's bytes define, and at most the log's length less 12
+gone-section : (size : ℕ) → 0 < size → (s : List ℕ) → Whole size s → 4 + countOf s + length (afterOf size s) ≤ length s
+gone-section size some s w =
+    omega (arith, w .within, le-mul-of-pos-right (countOf s) some, length-drop (endOf size s) s)
+
+pub gone-bound : (s : List ℕ) {gone : ℕ} → readOf s ≡ Accepted gone → (gone ≡ goneThrough s) × (gone ≤ length s - 12)
+gone-bound s e =
+    let a = accepts s e in (
+      a .told,
+      omega (
+        arith,
+        gone-section 1 (lit< tt) (restAfter s 0) (a .editions),
+        gone-section 8 (lit< tt) (restAfter s 1) (a .syndromes),
+        gone-section 16 (lit< tt) (restAfter s 2) (a .addresses),
+        gone-section 1 (lit< tt) (restAfter s 3) (a .injections),
+      ),
+    )
+
+-- WRITTEN AGAIN: an accepted log is the log of its entries, byte for byte
+module _ (s : List ℕ) (b : Bytes s) where
+  bytes-after : (n : ℕ) → Bytes (restAfter s n)
+  bytes-after zero = b
+  bytes-after (suc n) = bytes-drop (endOf (getD sizes n 0) (restAfter s n)) (restAfter s n) (bytes-after n)
+
+  pub log-again : {gone : ℕ} → readOf s ≡ Accepted gone → logOf (entriesOf s) ≡ s
+  unfolding logOf entriesOf
+  log-again e =
+      let a = accepts s e in
+      let fourth = numbers-last 1 (restAfter s 3) (bytes-after 3) (a .injections) (a .none-left) in
+      let third = section-again 16 pair pairIn PairFits pair-sized pair-back pair-again (restAfter s 2) (bytes-after 2) (a .addresses) in
+      let second = numbers-again 8 (restAfter s 1) (bytes-after 1) (a .syndromes) in
+      let first = numbers-again 1 s b (a .editions) in
+      rw (fourth, third, second, first)
+
+-- its syndromes and addresses agree
+pub entries-agree : (s : List ℕ) {gone : ℕ} → readOf s ≡ Accepted gone → length (entriesOf s .syndromes) ≡ length (entriesOf s .addresses)
+unfolding entriesOf
+entries-agree s e =
+    entries-count 8 wordIn (countAfter s 1) (bodyAfter s 1) ∙ accepts s e .agree ∙ sym (entries-count 16 pairIn (countAfter s 2) (bodyAfter s 2))
+
+-- what the writer's slices and tests make sure of entries: they fit, syndromes and addresses agree, and the log is not too long
+pub record Writable (e : Entries) : Type 0 where
+  pub editions : Each (Fitting 1) (e .editions)
+  pub syndromes : Each (Fitting 8) (e .syndromes)
+  pub addresses : Each PairFits (e .addresses)
+  pub injections : Each (Fitting 1) (e .injections)
+  pub agree : length (e .syndromes) ≡ length (e .addresses)
+  pub short : length (logOf e) ≤ 65536
+
+pub log-length : (e : Entries) → length (logOf e)
+    ≡ 16 + length (e .editions) + length (e .syndromes) * 8 + length (e .addresses) * 16 + length (e .injections)
+unfolding logOf
+log-length e =
+    let fourth : List ℕ = sectionBytes byte (e .injections) in
+    let third : List ℕ = sectionBytes pair (e .addresses) ++ fourth in
+    let second : List ℕ = sectionBytes word (e .syndromes) ++ third in
+    omega (
+      arith,
+      length-append (sectionBytes byte (e .editions)) second,
+      length-append (sectionBytes word (e .syndromes)) third,
+      length-append (sectionBytes pair (e .addresses)) fourth,
+      numbers-length 1 (e .editions),
+      numbers-length 8 (e .syndromes),
+      pairs-length (e .addresses),
+      numbers-length 1 (e .injections),
+    )
+
+-- ACCEPTED: the log of writable entries is read, and holds those entries
+module _ (e : Entries) (w : Writable e) where
+  abbrev s : List ℕ
+  s = logOf e
+
+  abbrev fourth : List ℕ
+  fourth = sectionBytes byte (e .injections)
+
+  abbrev third : List ℕ
+  third = sectionBytes pair (e .addresses) ++ fourth
+
+  abbrev second : List ℕ
+  second = sectionBytes word (e .syndromes) ++ third
+
+  editions-stand : Stands 1 byteIn (e .editions) s second
+  unfolding logOf
+  editions-stand = numbers-stand 1 (e .editions) second s (omega (arith, log-length e, w .short)) (w .editions) refl
+
+  syndromes-stand : Stands 8 wordIn (e .syndromes) (restAfter s 1) third
+  syndromes-stand =
+      numbers-stand 8 (e .syndromes) third (restAfter s 1) (omega (arith, log-length e, w .short)) (w .syndromes) (editions-stand .after)
+
+  addresses-stand : Stands 16 pairIn (e .addresses) (restAfter s 2) fourth
+  addresses-stand =
+      section-stands 16 pair pairIn PairFits pair-sized pair-back pair-again (e .addresses) fourth (restAfter s 2)
+      (omega (arith, log-length e, w .short)) (w .addresses) (syndromes-stand .after)
+
+  injections-stand : Stands 1 byteIn (e .injections) (restAfter s 3) []
+  injections-stand =
+      numbers-stand 1 (e .injections) [] (restAfter s 3) (omega (arith, log-length e, w .short)) (w .injections)
+      (addresses-stand .after ∙ sym (append-nil fourth))
+
+  pub log-accepted : readOf (logOf e)
+      ≡ Accepted (4 + length (e .editions) + length (e .syndromes) + length (e .addresses) + length (e .injections))
+  unfolding readOf
+  log-accepted =
+      simp (
+        le-leb (length s) 65536 (w .short),
+        editions-stand .whole,
+        syndromes-stand .whole,
+        addresses-stand .whole,
+        injections-stand .whole,
+        eq-eqb (length (restAfter s 4)) 0 (ap length (injections-stand .after)),
+        eq-eqb (countAfter s 1) (countAfter s 2) (syndromes-stand .counts ∙ w .agree ∙ sym (addresses-stand .counts)),
+      )
+      (ap Accepted (omega (arith, editions-stand .counts, syndromes-stand .counts, addresses-stand .counts, injections-stand .counts)))
+
+  pub log-entries : entriesOf (logOf e) ≡ e
+  unfolding entriesOf
+  log-entries = rw (editions-stand .back, syndromes-stand .back, addresses-stand .back, injections-stand .back)

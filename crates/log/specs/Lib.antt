@@ -1,0 +1,5 @@
+pub mod Number
+pub mod Section
+pub mod Log
+pub mod Answer
+pub mod Look

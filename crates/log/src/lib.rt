@@ -1,0 +1,36 @@
+// A trap log: what a board saw, in four sections of bytes that a fitter can send.
+//
+// Each section is its count of entries, 32 bits little-endian, and then the entries: the editions seen (one byte each), the syndromes (8
+// bytes), the addresses (FAR and HPFAR, 8 bytes each) and the injections (one byte). Entries are carried and not judged.
+ghost use mathlib.Core.Path.{_≡_};
+ghost use Rattle.log.specs.Answer.{readOf};
+
+mod answer;
+mod entry;
+mod number;
+mod section;
+mod sections;
+
+pub use answer::Read;
+pub use answer::gone_in;
+pub use answer::number_of;
+pub use answer::section_in;
+pub use entry::Entry;
+pub use entry::Look;
+pub use entry::Place;
+pub use entry::look_at;
+pub use entry::skip;
+pub use section::Section;
+
+// The longest log: 65,536 bytes.
+pub const MOST: usize = 65536;
+
+// Reads a log.
+pub fn read(log: &[u8]) -> Read
+    ensures { λ a. ⌜ a ≡ readOf (now (log .entry)) ⌝ }
+{
+    if MOST < log.len() {
+        return Read::TooLong;
+    }
+    sections::editions(log)
+}

@@ -1,0 +1,37 @@
+-- Request C-14: a log as lines of text, for the fitter. The first line tells how the log was read.
+use Prim.Native.Nat.{ℕ}
+use mathlib.Core.List.{List, _++_}
+use Rattle.log.specs.Answer.{numberOf, sectionIn}
+use Rattle.log.specs.declared.answer.Read.{Read}
+use Rattle.log.specs.declared.answer.Read.the-variants.{Accepted, TooLong, CutShort, LeftOver, Unequal}
+use Rattle.text.specs.Ascii.{ascii}
+use Rattle.text.specs.Numeral.{decimalText, hexText}
+
+-- a space and a number
+abbrev pub decimalField : ℕ → List ℕ
+decimalField n = ascii " " ++ decimalText n
+
+abbrev pub hexField : ℕ → List ℕ
+hexField n = ascii " " ++ hexText n
+
+-- a refusal of the log: its number and its section
+abbrev pub refusedText : Read → List ℕ
+refusedText a = ascii "refused" ++ decimalField (numberOf a) ++ decimalField (sectionIn a) ++ ascii "\n"
+
+-- how many counts and entries were gone through, or the refusal
+abbrev pub readText : Read → List ℕ
+readText (Accepted gone) = ascii "taken" ++ decimalField gone ++ ascii "\n"
+readText TooLong = refusedText TooLong
+readText (CutShort section) = refusedText (CutShort section)
+readText LeftOver = refusedText LeftOver
+readText Unequal = refusedText Unequal
+
+-- the entries
+abbrev pub editionText : ℕ → List ℕ
+editionText edition = ascii "edition" ++ decimalField edition ++ ascii "\n"
+
+abbrev pub injectionText : ℕ → List ℕ
+injectionText injection = ascii "injection" ++ decimalField injection ++ ascii "\n"
+
+abbrev pub wordsText : ℕ → ℕ → ℕ → List ℕ
+wordsText esr far hpfar = ascii "trap" ++ hexField esr ++ hexField far ++ hexField hpfar ++ ascii "\n"

@@ -1,0 +1,75 @@
+// A trap log as lines of text, each appended to a buffer as `text::append` does.
+ghost use mathlib.Core.List.{_++_};
+ghost use Rattle.text.specs.Ascii.{ascii};
+ghost use Rattle.text.specs.Append.{Appends};
+ghost use Rattle.log_text.specs.Lines.{decimalField, hexField, refusedText, readText, editionText, injectionText, wordsText};
+use log::Read;
+
+// Appends a space and a number.
+pub fn decimal_field(out: &mut [u8], at: usize, n: u64) -> usize
+    ensures { λ end. ⌜ Appends (decimalField n) (now (out .entry)) at (now (out .exit)) end ⌝ }
+{
+    let space = text::append(out, at, b" ");
+    text::append_decimal(out, space, n)
+}
+
+pub fn hex_field(out: &mut [u8], at: usize, n: u64) -> usize
+    ensures { λ end. ⌜ Appends (hexField n) (now (out .entry)) at (now (out .exit)) end ⌝ }
+{
+    let space = text::append(out, at, b" ");
+    text::append_hex(out, space, n)
+}
+
+// A line of a word and a number.
+fn numbered(out: &mut [u8], at: usize, word: &[u8], n: u64) -> usize
+    ensures { λ end. ⌜ Appends (now (word .entry) ++ decimalField n ++ ascii "\n") (now (out .entry)) at (now (out .exit)) end ⌝ }
+{
+    let first = text::append(out, at, word);
+    let number = decimal_field(out, first, n);
+    text::append(out, number, b"\n")
+}
+
+fn refused(out: &mut [u8], at: usize, answer: Read) -> usize
+    ensures { λ end. ⌜ Appends (refusedText answer) (now (out .entry)) at (now (out .exit)) end ⌝ }
+{
+    let word = text::append(out, at, b"refused");
+    let number = decimal_field(out, word, log::number_of(answer) as u64);
+    let section = decimal_field(out, number, log::section_in(answer) as u64);
+    text::append(out, section, b"\n")
+}
+
+// How the log was read.
+pub fn read_line(out: &mut [u8], at: usize, answer: Read) -> usize
+    ensures { λ end. ⌜ Appends (readText answer) (now (out .entry)) at (now (out .exit)) end ⌝ }
+{
+    match answer {
+        Read::Accepted(gone) => numbered(out, at, b"taken", gone as u64),
+        Read::TooLong => refused(out, at, Read::TooLong),
+        Read::CutShort(section) => refused(out, at, Read::CutShort(section)),
+        Read::LeftOver => refused(out, at, Read::LeftOver),
+        Read::Unequal => refused(out, at, Read::Unequal),
+    }
+}
+
+pub fn edition_line(out: &mut [u8], at: usize, edition: u8) -> usize
+    ensures { λ end. ⌜ Appends (editionText edition) (now (out .entry)) at (now (out .exit)) end ⌝ }
+{
+    numbered(out, at, b"edition", edition as u64)
+}
+
+pub fn injection_line(out: &mut [u8], at: usize, injection: u8) -> usize
+    ensures { λ end. ⌜ Appends (injectionText injection) (now (out .entry)) at (now (out .exit)) end ⌝ }
+{
+    numbered(out, at, b"injection", injection as u64)
+}
+
+// The three registers of a trap.
+pub fn words_line(out: &mut [u8], at: usize, esr: u64, far: u64, hpfar: u64) -> usize
+    ensures { λ end. ⌜ Appends (wordsText esr far hpfar) (now (out .entry)) at (now (out .exit)) end ⌝ }
+{
+    let word = text::append(out, at, b"trap");
+    let first = hex_field(out, word, esr);
+    let second = hex_field(out, first, far);
+    let third = hex_field(out, second, hpfar);
+    text::append(out, third, b"\n")
+}

@@ -1,0 +1,343 @@
+//! Trap logs (request C-14): read and written by chopping a list of bytes, and
+//! the logs that the gate runs the proved code on.
+//!
+//! A log is never measured beforehand. Reading takes bytes off the front until
+//! they run out; writing pushes them and looks at the length afterwards.
+
+use crate::catalogue::Catalogue;
+use crate::long::LONG;
+use crate::random::Random;
+use crate::trap::{read_trap, Intermediate, Registers};
+use std::collections::BTreeSet;
+use std::fmt::Write;
+
+const LONGEST: usize = 65_536;
+
+/// What a log carries.
+#[derive(Clone, Debug, Default, PartialEq, Eq)]
+pub struct Log {
+    pub editions: Vec<u8>,
+    pub syndromes: Vec<u64>,
+    pub addresses: Vec<(u64, u64)>,
+    pub injections: Vec<u8>,
+}
+
+/// A refusal: its number, and for number 13 the section.
+#[derive(Clone, Copy, Debug, PartialEq, Eq)]
+pub struct Refusal {
+    pub number: u8,
+    pub section: u8,
+}
+
+fn refused(number: u8) -> Refusal {
+    Refusal { number, section: 0 }
+}
+
+/// Takes so many bytes off the front, if there are as many.
+fn chop<'a>(rest: &mut &'a [u8], size: usize) -> Option<&'a [u8]> {
+    let (front, back) = rest.split_at_checked(size)?;
+    *rest = back;
+    Some(front)
+}
+
+fn number(bytes: &[u8]) -> u64 {
+    bytes.iter().rev().fold(0, |value, &byte| value << 8 | u64::from(byte))
+}
+
+/// The entries of a section, each as its bytes.
+fn section<'a>(rest: &mut &'a [u8], size: usize) -> Option<Vec<&'a [u8]>> {
+    let count = number(chop(rest, 4)?);
+    let mut entries = Vec::new();
+    for _ in 0..count {
+        entries.push(chop(rest, size)?);
+    }
+    Some(entries)
+}
+
+/// The log, and how many counts and entries were gone through.
+pub fn read(bytes: &[u8]) -> Result<(Log, usize), Refusal> {
+    if bytes.len() > LONGEST {
+        return Err(refused(16));
+    }
+    let mut rest = bytes;
+    let mut gone = 0;
+    let mut sections = Vec::new();
+    for (at, size) in [1, 8, 16, 1].into_iter().enumerate() {
+        let cut = Refusal { number: 13, section: at as u8 + 1 };
+        let entries = section(&mut rest, size).ok_or(cut)?;
+        gone += 1 + entries.len();
+        sections.push(entries);
+    }
+    if !rest.is_empty() {
+        return Err(refused(14));
+    }
+    let byte = |entry: &&[u8]| number(entry) as u8;
+    let log = Log {
+        editions: sections[0].iter().map(byte).collect(),
+        syndromes: sections[1].iter().map(|entry| number(entry)).collect(),
+        addresses: sections[2]
+            .iter()
+            .map(|entry| (number(&entry[..8]), number(&entry[8..])))
+            .collect(),
+        injections: sections[3].iter().map(byte).collect(),
+    };
+    if log.syndromes.len() != log.addresses.len() {
+        return Err(refused(15));
+    }
+    Ok((log, gone))
+}
+
+/// The bytes of a log, whatever it carries.
+pub fn bytes(log: &Log) -> Vec<u8> {
+    let mut bytes = Vec::new();
+    let count = |bytes: &mut Vec<u8>, entries: usize| bytes.extend((entries as u32).to_le_bytes());
+    count(&mut bytes, log.editions.len());
+    bytes.extend(&log.editions);
+    count(&mut bytes, log.syndromes.len());
+    bytes.extend(log.syndromes.iter().flat_map(|esr| esr.to_le_bytes()));
+    count(&mut bytes, log.addresses.len());
+    for (far, hpfar) in &log.addresses {
+        bytes.extend(far.to_le_bytes());
+        bytes.extend(hpfar.to_le_bytes());
+    }
+    count(&mut bytes, log.injections.len());
+    bytes.extend(&log.injections);
+    bytes
+}
+
+/// The number that a writer answers for a buffer of so many bytes.
+fn written(log: &Log, room: usize) -> u8 {
+    let length = bytes(log).len();
+    match () {
+        () if length > LONGEST => 16,
+        () if log.syndromes.len() != log.addresses.len() => 15,
+        () if length > room => 17,
+        () => 0,
+    }
+}
+
+/// The first line: how the log was read.
+fn first_line(answer: &Result<(Log, usize), Refusal>) -> String {
+    match answer {
+        Ok((_, gone)) => format!("taken {gone}\n"),
+        Err(refusal) => format!("refused {} {}\n", refusal.number, refusal.section),
+    }
+}
+
+/// The lines that logread writes for a log.
+fn shown(bytes: &[u8]) -> String {
+    let answer = read(bytes);
+    let mut text = first_line(&answer);
+    let Ok((log, _)) = answer else { return text };
+    let words = log.syndromes.iter().filter_map(|&esr| u32::try_from(esr).ok());
+    let catalogue = Catalogue::of(&LONG, words);
+    for edition in &log.editions {
+        let _ = writeln!(text, "edition {edition}");
+    }
+    let seen: BTreeSet<u32> = log.editions.iter().map(|&edition| edition.into()).collect();
+    for (&esr, &(far, hpfar)) in log.syndromes.iter().zip(&log.addresses) {
+        let _ = writeln!(text, "trap {esr:x} {far:x} {hpfar:x}");
+        for &edition in seen.iter().filter(|&&edition| LONG.edition(edition).is_some()) {
+            text += &line_in(&catalogue, edition, Registers { esr, far, hpfar });
+        }
+    }
+    for injection in &log.injections {
+        let _ = writeln!(text, "injection {injection}");
+    }
+    text
+}
+
+/// What an edition makes of a trap.
+fn line_in(catalogue: &Catalogue, edition: u32, registers: Registers) -> String {
+    let told = match read_trap(catalogue, edition, registers) {
+        Ok(trap) => {
+            let virtual_address =
+                trap.virtual_address.map(|address| format!(" virtual {address:x}"));
+            let intermediate = match trap.intermediate {
+                Intermediate::None => String::new(),
+                Intermediate::Page(page) => format!(" page {page:x}"),
+                Intermediate::Byte(byte) => format!(" byte {byte:x}"),
+            };
+            format!("taken{}{intermediate}", virtual_address.unwrap_or_default())
+        }
+        Err(refusal) => {
+            let mask = refusal.editions.0;
+            format!("refused {} {mask} {}", refusal.number, mask.count_ones())
+        }
+    };
+    format!("in {edition} {told}\n")
+}
+
+/// A log of the cases of the paper and of words that editions differ in.
+fn example() -> Log {
+    let traps = [
+        (0x9200_0005, 0x8abc, 0x1_2340),
+        (0x9200_0085, 0x8abc, 0x1_2340),
+        (0x9200_000d, 0x8000, u64::MAX),
+        (0x9200_0018, 0x1000, 0),
+        (0x9200_001b, 0x1000, 0),
+        (0x9200_0031, 0, 0),
+        (0x9383_0045, 0x1_0000_0000, 0x10),
+        (0x9383_0045, 0x4000, 0x1),
+        (0x8a00_0000, 0x8003, u64::MAX),
+        (0x4a00_0001, u64::MAX, u64::MAX),
+        (0x1_9200_0005, 0, 0),
+        (0x5a00_0000, 0, 0),
+        (0, 0, 0),
+        (0x4a01_0000, 0, 0),
+        (0x9200_0009, 0xfff, 0xff0_0000_0000),
+    ];
+    Log {
+        editions: vec![3, 0, 200, 3, 7, 1, 0, 16],
+        syndromes: traps.iter().map(|trap| trap.0).collect(),
+        addresses: traps.iter().map(|trap| (trap.1, trap.2)).collect(),
+        injections: vec![0, 4, 255, 1],
+    }
+}
+
+/// A log of random entries.
+fn random(random: &mut Random, most: u64) -> Log {
+    let traps = random.below(most);
+    Log {
+        editions: (0..random.below(most)).map(|_| random.next() as u8).collect(),
+        syndromes: (0..traps).map(|_| random.next()).collect(),
+        addresses: (0..traps).map(|_| (random.next(), random.next())).collect(),
+        injections: (0..random.below(most)).map(|_| random.next() as u8).collect(),
+    }
+}
+
+/// A log whose editions fill it up to so many bytes.
+fn filled(size: usize) -> Log {
+    let editions = vec![5; size - 16];
+    Log { editions, ..Log::default() }
+}
+
+/// Good, cut, overlong and damaged logs.
+fn logs() -> Vec<Vec<u8>> {
+    let whole = bytes(&example());
+    let mut logs = vec![whole.clone(), Vec::new(), bytes(&Log::default())];
+    // Every cut of a short log, and a byte left over.
+    let short = Log {
+        editions: vec![200, 1],
+        syndromes: vec![0x9200_0005],
+        addresses: vec![(0x8abc, 0x1_2340)],
+        injections: vec![7],
+    };
+    let short = bytes(&short);
+    logs.extend((0..short.len()).map(|size| short[..size].to_vec()));
+    logs.push([&short[..], &[0]].concat());
+    // The longest log, one byte more, and the longest with traps.
+    logs.push(bytes(&filled(LONGEST)));
+    logs.push(bytes(&filled(LONGEST + 1)));
+    let mut generator = Random::seeded(14);
+    let traps = 2730;
+    logs.push(bytes(&Log {
+        syndromes: (0..traps).map(|_| generator.next()).collect(),
+        addresses: (0..traps).map(|_| (generator.next(), generator.next())).collect(),
+        ..Log::default()
+    }));
+    // A count near 2^32 in each section, which 32 bits of its product would let pass.
+    for place in [0, 6, 18, 38] {
+        for count in [0xffff_ffff_u32, 0x8000_0000, 0x2000_0001, 0x1000_0001] {
+            let mut damaged = short.clone();
+            damaged[place..place + 4].copy_from_slice(&count.to_le_bytes());
+            logs.push(damaged);
+        }
+    }
+    // Counts that differ, with and without a byte left over.
+    let mut uneven = example();
+    uneven.addresses.pop();
+    logs.push(bytes(&uneven));
+    logs.push([&bytes(&uneven)[..], &[1]].concat());
+    for _ in 0..100 {
+        let good = bytes(&random(&mut generator, 12));
+        let mut damaged = good.clone();
+        let place = generator.below(damaged.len() as u64) as usize;
+        damaged[place] = damaged[place].wrapping_add(generator.below(4) as u8 + 1);
+        logs.push(good);
+        logs.push(damaged);
+    }
+    logs
+}
+
+/// What the check program writes for a log.
+fn checked(bytes_in: &[u8]) -> String {
+    let answer = read(bytes_in);
+    let mut text = first_line(&answer);
+    if let Ok((log, _)) = answer {
+        let again = bytes(&log);
+        let same = if again == bytes_in { "same" } else { "other" };
+        let (short, full) = (written(&log, again.len() - 1), written(&log, again.len()));
+        let _ = writeln!(text, "again {short} {full} {same}");
+    }
+    text
+}
+
+/// The files of logs with their names: one log that is shown, and many that are
+/// read and written again, each after its length.
+pub fn files() -> Vec<(&'static str, Vec<u8>)> {
+    let shown_log = bytes(&example());
+    let logs = logs();
+    let framed = |log: &Vec<u8>| [&(log.len() as u32).to_le_bytes()[..], log].concat();
+    vec![
+        ("logread/stdout", shown(&shown_log).into_bytes()),
+        ("logread/stdin", shown_log),
+        ("check_log/stdin", logs.iter().flat_map(framed).collect()),
+        ("check_log/stdout", logs.iter().map(|log| checked(log)).collect::<String>().into_bytes()),
+    ]
+}
+
+#[cfg(test)]
+mod tests {
+    use super::*;
+
+    fn refusal(bytes: &[u8]) -> Option<(u8, u8)> {
+        read(bytes).err().map(|refusal| (refusal.number, refusal.section))
+    }
+
+    #[test]
+    fn an_empty_log_is_sixteen_bytes() {
+        assert_eq!(bytes(&Log::default()), [0; 16]);
+        assert_eq!(read(&[0; 16]).map(|read| read.1), Ok(4));
+        assert_eq!(refusal(&[0; 15]), Some((13, 4)));
+        assert_eq!(refusal(&[]), Some((13, 1)));
+        assert_eq!(refusal(&[0; 17]), Some((14, 0)));
+    }
+
+    #[test]
+    fn the_longest_log_is_taken_and_one_byte_more_is_not() {
+        let longest = bytes(&filled(LONGEST));
+        assert_eq!(longest.len(), LONGEST);
+        assert_eq!(read(&longest).map(|read| read.1), Ok(4 + LONGEST - 16));
+        assert_eq!(refusal(&bytes(&filled(LONGEST + 1))), Some((16, 0)));
+    }
+
+    #[test]
+    fn counts_that_differ_come_last() {
+        let uneven = Log { syndromes: vec![1], ..Log::default() };
+        let mut log = bytes(&uneven);
+        assert_eq!(refusal(&log), Some((15, 0)));
+        log.push(0);
+        assert_eq!(refusal(&log), Some((14, 0)));
+    }
+
+    #[test]
+    fn the_logs_have_every_answer() {
+        let numbers: BTreeSet<u8> =
+            logs().iter().map(|log| refusal(log).map_or(0, |r| r.0)).collect();
+        assert_eq!(numbers, BTreeSet::from([0, 13, 14, 15, 16]));
+        let sections: BTreeSet<u8> =
+            logs().iter().filter_map(|log| refusal(log)).map(|r| r.1).collect();
+        assert_eq!(sections, BTreeSet::from([0, 1, 2, 3, 4]));
+    }
+
+    #[test]
+    fn the_sum_of_a_log_is_its_entries() {
+        for log in logs() {
+            if let Ok((carried, gone)) = read(&log) {
+                assert_eq!(bytes(&carried), log);
+                assert!(gone + 12 <= log.len());
+            }
+        }
+    }
+}
