@@ -11,6 +11,7 @@ use Rattle.edition.specs.declared.Refusal.{Refusal}
 use Rattle.syndrome.specs.Answer.{readOf}
 use Rattle.syndrome.specs.declared.record.Record.{Record}
 use Rattle.syndrome.specs.declared.answer.Read.{Read}
+use Rattle.status.specs.Base.{unmarked}
 use Rattle.guest.specs.Inject.{injected}
 use Rattle.guest.specs.Link.{linkOf}
 use Rattle.guest.specs.Injection.{injectionRow}
@@ -51,9 +52,10 @@ pub data Case : Type 0 where
   -- a data abort: status, SCTLR and PC; then the link
   data-abort-link : ℕ → ℕ → ℕ → ℕ → Case
 
--- a state's 31 registers, whatever they hold
-abbrev pub Whole : Guest → Type 0
-Whole s = length (s .regs) ≡ 31
+-- a state's 31 registers, whatever they hold, and no feature of C-15
+pub record Whole (s : Guest) : Type 0 where
+  pub registers : length (s .regs) ≡ 31
+  pub marks : s .marks ≡ unmarked
 
 -- a whole state, and a data abort whose fault and address pass in it
 pub record Passing (s : Guest) (a : Access) : Type 0 where
