@@ -16,7 +16,9 @@ use Rattle.record.specs.Split.{recordOf}
 use Rattle.rule.specs.Has.{lawful, has}
 use Rattle.syndrome.specs.Reading.{readOf}
 use Rattle.syndrome.proofs.Everywhere.{taken-everywhere, short-everywhere, none-everywhere}
+use Rattle.status.specs.declared.Marks.{Marks}
 use Rattle.status.specs.Mode.{isMode}
+use Rattle.status.specs.Base.{unmarked}
 use Rattle.status.specs.Sound.{sound}
 use Rattle.status.specs.Entry.{t32, entryStatus}
 use Rattle.status.specs.declared.Mode.the-variants.{Abort, Undefined}
@@ -52,16 +54,16 @@ leaves s i p new-status new-link new-pc =
     }
 
 -- an undefined instruction at PC, by the four registers that its case gives
-undefined : (s : Guest) (status pc vbar sctlr : ℕ) → Whole s → sound status ≡ true → aligned vbar ≡ true
+undefined : (s : Guest) (status pc vbar sctlr : ℕ) → Whole s → sound unmarked status ≡ true → aligned vbar ≡ true
     → s .status ≡ status → s .pc ≡ pc → s .vbar ≡ vbar → s .sctlr ≡ sctlr
-    → Leaves s UndefinedAt (entryStatus Undefined false status sctlr) (linkOf pc (signed (correctionIn (injectionRow UndefinedAt) (t32 status))))
+    → Leaves s UndefinedAt (entryStatus unmarked Undefined false status sctlr) (linkOf pc (signed (correctionIn (injectionRow UndefinedAt) (t32 status))))
     ((vectorBase sctlr vbar + 0x04) % 2 ^ 32)
 unfolding entered
 undefined s status pc vbar sctlr whole is-sound is-aligned st p v sc =
     leaves s UndefinedAt
-    (record { status = ap sound st ∙ is-sound; vbar = ap aligned v ∙ is-aligned; fault = refl; address = refl })
-    (ap₂ (entryStatus Undefined false) st sc)
-    (link-held s UndefinedAt (subst (λ (n : ℕ). 22 < n) (sym whole) (lit< tt))
+    (record { status = ap₂ sound (whole .marks) st ∙ is-sound; vbar = ap aligned v ∙ is-aligned; fault = refl; address = refl })
+    (ap (λ (m : Marks). entryStatus m Undefined false (s .status) (s .sctlr)) (whole .marks) ∙ ap₂ (entryStatus unmarked Undefined false) st sc)
+    (link-held s UndefinedAt (subst (λ (n : ℕ). 22 < n) (sym (whole .registers)) (lit< tt))
     ∙ ap₂ (λ (x y : ℕ). linkOf x (signed (correctionIn (injectionRow UndefinedAt) (t32 y)))) p st)
     (ap₂ (λ (x y : ℕ). (vectorBase x y + 0x04) % 2 ^ 32) sc v)
 
@@ -71,13 +73,13 @@ abort-correction a true = refl
 abort-correction a false = refl
 
 -- a data abort of a fault and an address that pass, with high vectors
-aborted : (s : Guest) (a : Access) (status sctlr : ℕ) → Passing s a → sound status ≡ true → bitOf sctlr 13 ≡ true
-    → s .status ≡ status → s .sctlr ≡ sctlr → Leaves s (DataAbort a) (entryStatus Abort true status sctlr) (linkOf (s .pc) (pos 8)) 0xFFFF0010
+aborted : (s : Guest) (a : Access) (status sctlr : ℕ) → Passing s a → sound unmarked status ≡ true → bitOf sctlr 13 ≡ true
+    → s .status ≡ status → s .sctlr ≡ sctlr → Leaves s (DataAbort a) (entryStatus unmarked Abort true status sctlr) (linkOf (s .pc) (pos 8)) 0xFFFF0010
 unfolding entered
 aborted s a status sctlr p is-sound high st sc =
-    leaves s (DataAbort a) (record { status = ap sound st ∙ is-sound; vbar = p .vbar; fault = p .fault; address = p .address })
-    (ap₂ (entryStatus Abort true) st sc)
-    (link-held s (DataAbort a) (subst (λ (n : ℕ). 20 < n) (sym (p .whole)) (lit< tt))
+    leaves s (DataAbort a) (record { status = ap₂ sound (p .whole .marks) st ∙ is-sound; vbar = p .vbar; fault = p .fault; address = p .address })
+    (ap (λ (m : Marks). entryStatus m Abort true (s .status) (s .sctlr)) (p .whole .marks) ∙ ap₂ (entryStatus unmarked Abort true) st sc)
+    (link-held s (DataAbort a) (subst (λ (n : ℕ). 20 < n) (sym (p .whole .registers)) (lit< tt))
     ∙ ap (λ (c : Correction). linkOf (s .pc) (signed c)) (abort-correction a (t32 (s .status))))
     (ap (λ (b : Bool). (cond b 0xFFFF_0000 (s .vbar) + 0x10) % 2 ^ 32) (ap (λ (w : ℕ). bitOf w 13) sc ∙ high))
 

@@ -11,6 +11,7 @@ use Rattle.edition.specs.declared.Refusal.{Refusal}
 use Rattle.record.specs.declared.kinds.Record.{Record}
 use Rattle.syndrome.specs.Reading.{readOf}
 use Rattle.syndrome.specs.declared.answer.Read.{Read}
+use Rattle.status.specs.Base.{unmarked}
 use Rattle.guest.specs.Inject.{injected}
 use Rattle.guest.specs.Link.{linkOf}
 use Rattle.guest.specs.Injection.{injectionRow}
@@ -70,9 +71,10 @@ pub data Case : Type 0 where
   data-abort : AbortBefore → AbortAfter → Case
   data-abort-link : AbortBefore → ℕ → ℕ → Case
 
--- a state's 31 registers, whatever they hold
-abbrev pub Whole : Guest → Type 0
-Whole s = length (s .regs) ≡ 31
+-- a state's 31 registers, whatever they hold, and no feature of C-15
+pub record Whole (s : Guest) : Type 0 where
+  pub registers : length (s .regs) ≡ 31
+  pub marks : s .marks ≡ unmarked
 
 -- a whole state, and a data abort whose fault and address pass in it
 pub record Passing (s : Guest) (a : Access) : Type 0 where

@@ -4,6 +4,7 @@ use super::row;
 use guest::FaultRegisters;
 use guest::Guest;
 use guest::Saved;
+use status::Marks;
 
 // Whether a row is a state: 45 words.
 pub fn is_given(row: &[u64]) -> bool {
@@ -43,6 +44,11 @@ pub fn from_row(row: &[u64]) -> Guest {
     let regs = registers(row);
     let spsr = saved(row);
     let fsr = faults(row);
+    let marks = Marks {
+        pan: false,
+        ssbs: false,
+        dit: false,
+    };
     Guest {
         regs,
         pc: row::word(row, 31),
@@ -52,6 +58,7 @@ pub fn from_row(row: &[u64]) -> Guest {
         sctlr: row::word(row, 42),
         vbar: row::word(row, 43),
         ttbcr: row::word(row, 44),
+        marks,
     }
 }
 

@@ -13,8 +13,8 @@ use Rattle.guest.specs.Inject.{guestAfter, injectionAnswer}
 use Rattle.guest.proofs.Answers.{accepted-exactly}
 
 pub again : (s : Guest) (i : Injection) → injectionAnswer s i ≡ Accepted
-    → (sound (guestAfter s i .status) ≡ true) × (aligned (guestAfter s i .vbar) ≡ true)
+    → (sound (guestAfter s i .marks) (guestAfter s i .status) ≡ true) × (aligned (guestAfter s i .vbar) ≡ true)
 unfolding entered
 again s i e =
     let p = accepted-exactly s i .0 e in
-    (sound-again (injectionRow i .mode) (injectionRow i .a) (s .status) (s .sctlr) (p .status), p .vbar)
+    (sound-again (s .marks) (injectionRow i .mode) (injectionRow i .a) (s .status) (s .sctlr) (p .status), p .vbar)

@@ -43,7 +43,7 @@ decided s i k = (
 -- ---- an injection is taken exactly when it passes the four tests
 
 pub record Passes (s : Guest) (i : Injection) : Type 0 where
-  pub status : sound (s .status) ≡ true
+  pub status : sound (s .marks) (s .status) ≡ true
   pub vbar : aligned (s .vbar) ≡ true
   pub fault : writable i (s .ttbcr) ≡ true
   pub address : addressFits i ≡ true

@@ -6,3 +6,4 @@ pub mod Vectors
 pub mod Links
 pub mod Registers
 pub mod Again
+pub mod Unmarked

@@ -89,14 +89,14 @@ module _ (s : Guest) (i : Injection) where
   unfolding injected
   by-answer e = told result e
 
-  pub unsound : sound (s .status) ≡ false → injectionAnswer s i ≡ UnsoundStatus
+  pub unsound : sound (s .marks) (s .status) ≡ false → injectionAnswer s i ≡ UnsoundStatus
   unfolding injectionAnswer
   unsound e = rw e
 
-  pub unaligned : sound (s .status) ≡ true → aligned (s .vbar) ≡ false → injectionAnswer s i ≡ UnalignedVbar
+  pub unaligned : sound (s .marks) (s .status) ≡ true → aligned (s .vbar) ≡ false → injectionAnswer s i ≡ UnalignedVbar
   unfolding injectionAnswer
   unaligned e d = rw (e, d)
 
-  pub judged : sound (s .status) ≡ true → aligned (s .vbar) ≡ true → injectionAnswer s i ≡ answerBy (reportOf i (s .faults) (s .ttbcr))
+  pub judged : sound (s .marks) (s .status) ≡ true → aligned (s .vbar) ≡ true → injectionAnswer s i ≡ answerBy (reportOf i (s .faults) (s .ttbcr))
   unfolding injectionAnswer
   judged e d = rw (e, d) (fault-tests i (s .faults) (s .ttbcr))

@@ -1,4 +1,4 @@
--- Exception entry (01, 'Guest state and the five injections'; 003): the whole state that the handler finds.
+-- Exception entry (01, 'Guest state and the five injections'; 003; 02, C-15): the whole state that the handler finds.
 use Prim.Native.Nat.{ℕ, _+_, _%_, _^_}
 use mathlib.Core.Bool.{Bool, cond}
 use mathlib.Core.List.{List}
@@ -44,6 +44,6 @@ entered s row faults =
     changed s
     (withRegister (s .regs) (row .link) (linkFrom s row))
     ((vectorBase (s .sctlr) (s .vbar) + row .vector) % 2 ^ 32)
-    (entryStatus (row .mode) (row .a) (s .status) (s .sctlr))
+    (entryStatus (s .marks) (row .mode) (row .a) (s .status) (s .sctlr))
     (savedIn (row .mode) (s .saved) (s .status))
     faults

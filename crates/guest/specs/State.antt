@@ -1,4 +1,4 @@
--- A guest's state that changes (01, 'Guest state and the five injections'). Its fields are listed here once.
+-- A guest's state that changes (01, 'Guest state and the five injections'; 02, C-15). Its fields are listed here once.
 use Prim.Native.Nat.{ℕ}
 use mathlib.Core.List.{List}
 use Rattle.guest.specs.declared.state.Saved.{Saved}
@@ -8,4 +8,14 @@ use Rattle.guest.specs.declared.state.Guest.{Guest}
 -- the state with these registers, PC, status word, saved status words and fault registers; the rest stays
 abbrev pub changed : Guest → List ℕ → ℕ → ℕ → Saved → FaultRegisters → Guest
 changed s regs pc status saved faults =
-    record { regs = regs; pc = pc; status = status; saved = saved; faults = faults; sctlr = s .sctlr; vbar = s .vbar; ttbcr = s .ttbcr }
+    record {
+      regs = regs;
+      pc = pc;
+      status = status;
+      saved = saved;
+      faults = faults;
+      sctlr = s .sctlr;
+      vbar = s .vbar;
+      ttbcr = s .ttbcr;
+      marks = s .marks;
+    }

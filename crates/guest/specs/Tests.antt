@@ -36,7 +36,7 @@ addressFits (DataAbort a) = ltb (a .address) (2 ^ 32)
 -- the tests in their order, each with its number; 0 comes where none fails
 abbrev pub injectionNumbers : Guest → Injection → List (Test ℕ)
 injectionNumbers s i =
-    needs (sound (s .status)) 9
+    needs (sound (s .marks) (s .status)) 9
     ∷ needs (aligned (s .vbar)) 10
     ∷ needs (writable i (s .ttbcr)) 11
     ∷ needs (addressFits i) 12
@@ -45,7 +45,7 @@ injectionNumbers s i =
 -- the same tests, each with its answer
 abbrev pub injectionTests : Guest → Injection → List (Test Answer)
 injectionTests s i =
-    needs (sound (s .status)) UnsoundStatus
+    needs (sound (s .marks) (s .status)) UnsoundStatus
     ∷ needs (aligned (s .vbar)) UnalignedVbar
     ∷ needs (writable i (s .ttbcr)) UnwritableFault
     ∷ needs (addressFits i) WideAddress

@@ -73,7 +73,8 @@ pub(crate) fn enter(state: Guest, row: Row, faults: FaultRegisters) -> Guest
     let regs = state.regs;
     let new_regs = with_register(regs, row.link, link);
     after.regs = new_regs;
-    let status = entry_status(mode, row.a, state.status, state.sctlr);
+    let marks = state.marks;
+    let status = entry_status(marks, mode, row.a, state.status, state.sctlr);
     let old = state.saved;
     let saved = saved_in(mode, old, state.status);
     after.saved = saved;

@@ -19,7 +19,8 @@ pub struct Injected {
 pub fn inject(state: Guest, what: Injection) -> Injected
     ensures { λ r. ⌜ Promise state what r ⌝ }
 {
-    if !sound(state.status) {
+    let marks = state.marks;
+    if !sound(marks, state.status) {
         return Injected {
             answer: Answer::UnsoundStatus,
             state,

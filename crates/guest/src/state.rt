@@ -1,4 +1,5 @@
 // What the monitor keeps of a guest. Every word is 32 bits wide.
+use status::Marks;
 
 // The saved program status registers (SPSR) of the modes that an exception is taken to.
 pub struct Saved {
@@ -16,7 +17,7 @@ pub struct FaultRegisters {
     pub ifar: u32,
 }
 
-// `regs` has the guest's registers in the AArch64 numbering, and `status` is its CPSR.
+// `regs` has the guest's registers in the AArch64 numbering, `status` is its CPSR, and `marks` says which features it has.
 pub struct Guest {
     pub regs: [u32; 31],
     pub pc: u32,
@@ -26,4 +27,5 @@ pub struct Guest {
     pub sctlr: u32,
     pub vbar: u32,
     pub ttbcr: u32,
+    pub marks: Marks,
 }

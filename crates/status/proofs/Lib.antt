@@ -1,6 +1,8 @@
--- Lemmas that several proofs cite, and the laws of the new status word.
+-- Lemmas that several proofs cite, and from `Fields` on the laws of the definitions.
 pub mod Masks
 pub mod Fields
 pub mod Again
 pub mod Modes
 pub mod Registers
+pub mod Unmarked
+pub mod Saved

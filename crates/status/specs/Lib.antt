@@ -1,5 +1,7 @@
--- The status word, by document 01's 'Guest state and the five injections' and source 003.
+-- The status word, by document 01's 'Guest state and the five injections', source 003 and request C-15.
 pub mod Mode
+pub mod Base
 pub mod Sound
 pub mod Entry
 pub mod Register
+pub mod Spsr

@@ -1,9 +1,12 @@
-// The status word (CPSR) of an AArch32 guest: which words are sound, and the word that an exception's handler finds.
+// The status word (CPSR) of an AArch32 guest: which words are sound, the word that an exception's handler finds, and the
+// word that the hypervisor saved of it.
 ghost use mathlib.Core.Path.{_≡_};
 ghost use Prim.Native.Nat.{_*_, _^_};
 ghost use Rattle.status.specs.Mode.{isMode, modeNumber};
-ghost use Rattle.status.specs.Sound.{sound};
-ghost use Rattle.status.specs.Entry.{t32, entryA, entryStatus};
+ghost use Rattle.status.specs.Sound.{allowed, sound};
+ghost use Rattle.status.specs.Base.{entryA};
+ghost use Rattle.status.specs.Entry.{t32, entryPan, entrySsbs, entryStatus};
+ghost use Rattle.status.specs.Spsr.{spsrStatus, SpsrPromise};
 ghost use Rattle.status.specs.Register.{byMode, numberIn, heldIn};
 use bits::bit;
 
@@ -20,14 +23,34 @@ pub enum Held {
     Nowhere,
 }
 
+// The features whose bits a guest's status word has.
+pub struct Marks {
+    pub pan: bool,
+    pub ssbs: bool,
+    pub dit: bool,
+}
+
+// What the hypervisor's saved word is as a status word of the guest.
+pub enum FromSpsr {
+    Status(u32),
+    // Its mode, or a bit of its 24:21, is wrong.
+    Unsound,
+}
+
 // Bit m is set for each mode m that a guest runs in.
 const MODES: u64 = 0x888F_0000;
 
 // N, Z, C, V and Q.
 const FLAGS: u32 = 0xF800_0000;
 
-// Bits 24:21, which no guest of the base has.
-const FEATURES: u32 = 0x01E0_0000;
+// Bit 24, which no guest has.
+const J: u32 = 0x0100_0000;
+
+const SSBS: u32 = 0x0080_0000;
+
+const PAN: u32 = 0x0040_0000;
+
+const DIT: u32 = 0x0020_0000;
 
 const GE: u32 = 0x000F_0000;
 
@@ -42,11 +65,26 @@ const EE: u32 = 0x0200_0000;
 
 const TE: u32 = 0x4000_0000;
 
-// A status word that a guest can have: an accepted mode in bits 4:0, and bits 24:21 zero.
-pub fn sound(status: u32) -> bool
-    ensures { λ r. ⌜ r ≡ sound status ⌝ }
+// SCTLR.DSSBS: SSBS of an exception's handler.
+const DSSBS: u32 = 0x8000_0000;
+
+// A feature's bit is set only where the guest has the feature.
+fn allowed(marked: bool, set: bool) -> bool
+    ensures { λ r. ⌜ r ≡ allowed marked set ⌝ }
 {
-    bit(MODES, status & 0x1F) && status & FEATURES == 0
+    marked | !set
+}
+
+// A status word that a guest can have: an accepted mode in bits 4:0, and no bit of 24:21 but those of its features.
+pub fn sound(marks: Marks, status: u32) -> bool
+    ensures { λ r. ⌜ r ≡ sound marks status ⌝ }
+{
+    let word = status as u64;
+    bit(MODES, status & 0x1F)
+        & allowed(false, bit(word, 24))
+        & allowed(marks.ssbs, bit(word, 23))
+        & allowed(marks.pan, bit(word, 22))
+        & allowed(marks.dit, bit(word, 21))
 }
 
 // Whether the guest is in T32 state.
@@ -74,12 +112,36 @@ fn entry_a(set: bool, old: u32) -> u32
     if set { A } else { old & A }
 }
 
+// PAN, which SCTLR.SPAN, bit 23, leaves as it was.
+fn entry_pan(marked: bool, old: u32, sctlr: u32) -> u32
+    ensures { λ r. ⌜ r ≡ entryPan marked old sctlr * 2 ^ 22 ⌝ }
+{
+    if marked & !bit(sctlr as u64, 23) {
+        PAN
+    } else {
+        old & PAN
+    }
+}
+
+fn entry_ssbs(marked: bool, old: u32, sctlr: u32) -> u32
+    ensures { λ r. ⌜ r ≡ entrySsbs marked old sctlr * 2 ^ 23 ⌝ }
+{
+    if marked {
+        (sctlr & DSSBS) >> 8
+    } else {
+        old & SSBS
+    }
+}
+
 // The status word at the handler's first instruction. IT and IL are 0.
-pub fn entry_status(mode: Mode, a: bool, old: u32, sctlr: u32) -> u32
-    ensures { λ r. ⌜ r ≡ entryStatus mode a old sctlr ⌝ }
+pub fn entry_status(marks: Marks, mode: Mode, a: bool, old: u32, sctlr: u32) -> u32
+    ensures { λ r. ⌜ r ≡ entryStatus marks mode a old sctlr ⌝ }
 {
     (old & FLAGS)
-        | (old & FEATURES)
+        | (old & J)
+        | entry_ssbs(marks.ssbs, old, sctlr)
+        | entry_pan(marks.pan, old, sctlr)
+        | (old & DIT)
         | (old & GE)
         | ((sctlr & EE) >> 16)
         | entry_a(a, old)
@@ -133,5 +195,24 @@ pub fn held_in(mode: u32, number: u32) -> Held
         Held::Register(number_in(mode, number))
     } else {
         Held::Nowhere
+    }
+}
+
+// The saved word with DIT, bit 24, in its place of a status word, bit 21, and without SS, which was there.
+fn spsr_status(spsr: u32) -> u32
+    ensures { λ r. ⌜ r ≡ spsrStatus spsr ⌝ }
+{
+    (spsr & 0xFE00_0000) | (spsr & 0x00C0_0000) | ((spsr & 0x0100_0000) >> 3) | (spsr & 0x001F_FFFF)
+}
+
+// The guest's status word, from the word that the hypervisor saved of it (SPSR_EL2).
+pub fn from_spsr(marks: Marks, spsr: u32) -> FromSpsr
+    ensures { λ r. ⌜ SpsrPromise marks spsr r ⌝ }
+{
+    let word = spsr_status(spsr);
+    if sound(marks, word) {
+        FromSpsr::Status(word)
+    } else {
+        FromSpsr::Unsound
     }
 }

@@ -1,16 +1,16 @@
 // The whole trap's answer in an edition as a line of text, appended to a buffer as `text::append` does.
 ghost use Rattle.text.specs.Append.{Appends};
 ghost use Rattle.trap_text.specs.Shown.{virtualText, intermediateText, trapText, refusalText, answerText, shownText};
+use address::Far;
+use address::Hpfar;
+use address::IntermediateAddress;
+use address::VirtualAddress;
 use log_text::decimal_field;
 use log_text::hex_field;
 use record::Esr;
 use trap::Answer;
-use address::Far;
-use address::Hpfar;
-use address::IntermediateAddress;
 use trap::Trap;
 use trap::TrapRefusal;
-use address::VirtualAddress;
 
 fn virtual_field(out: &mut [u8], at: usize, address: VirtualAddress) -> usize
     ensures { λ end. ⌜ Appends (virtualText address) (now (out .entry)) at (now (out .exit)) end ⌝ }

@@ -4,7 +4,7 @@ use mathlib.Core.Bool.{Bool}
 use Prim.Native.Nat.{ℕ, _*_, _^_}
 use lib.Bits.{and-high}
 use Rattle.bits.proofs.Arms.{told}
-use Rattle.status.specs.Entry.{entryA}
+use Rattle.status.specs.Base.{entryA}
 use Rattle.status.proofs.entry_a.Statement.{statement}
 use Rattle.status.proofs.entry_a.Tie as tie
 

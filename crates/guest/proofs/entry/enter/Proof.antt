@@ -22,7 +22,7 @@ module _ (s : Guest) (row : Row) (faults : FaultRegisters) where
   link p q e = e ∙ ap (λ (k : Correction). linkOf (s .pc) (signed k)) (q ∙ ap (correctionIn row) p)
 
   all : {regs : List ℕ} {saved : Saved} {l status base pc : ℕ} → l ≡ linkFrom s row → regs ≡ withRegister (s .regs) (row .link) l
-      → saved ≡ savedIn (row .mode) (s .saved) (s .status) → status ≡ entryStatus (row .mode) (row .a) (s .status) (s .sctlr)
+      → saved ≡ savedIn (row .mode) (s .saved) (s .status) → status ≡ entryStatus (s .marks) (row .mode) (row .a) (s .status) (s .sctlr)
       → base ≡ vectorBase (s .sctlr) (s .vbar) → pc ≡ (base + row .vector) % 2 ^ 32 → changed s regs pc status saved faults ≡ entered s row faults
   unfolding entered
   all e r v t b p =
@@ -54,13 +54,13 @@ wrapping-add-u32-requires c κs = search needs
 
 returns : tie.Need-returns
 returns c =
-    let start = c .before .before .before .before .before .before .before .before .before .before in
+    let start = c .before .before .before .before .before .before .before .before .before .before .before in
     all (start .args .state) (start .args .row) (start .args .faults)
     (link (start .args .state) (start .args .row) (start .args .faults)
-    (c .before .before .before .before .before .before .before .before .before .t32 .ensures)
-    (c .before .before .before .before .before .before .before .before .correction-in .ensures)
-    (c .before .before .before .before .before .before .before .link-of .ensures))
-    (c .before .before .before .before .before .with-register .ensures)
+    (c .before .before .before .before .before .before .before .before .before .before .t32 .ensures)
+    (c .before .before .before .before .before .before .before .before .before .correction-in .ensures)
+    (c .before .before .before .before .before .before .before .before .link-of .ensures))
+    (c .before .before .before .before .before .before .with-register .ensures)
     (c .before .before .saved-in .ensures)
     (c .before .before .before .before .entry-status .ensures)
     (c .before .vector-base .ensures)

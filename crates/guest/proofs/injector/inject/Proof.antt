@@ -23,13 +23,13 @@ use Rattle.guest.proofs.injector.inject.Statement.{statement}
 use Rattle.guest.proofs.injector.inject.Tie as tie
 
 -- past the first test
-passed-sound : (c : tie.Else1) → sound (c .before .before .args .state .status) ≡ true
+passed-sound : (c : tie.Else1) → sound (c .before .before .before .args .state .marks) (c .before .before .before .args .state .status) ≡ true
 passed-sound c = sym (c .before .sound .ensures) ∙ not-false _ (c .if1 .left)
 
 -- past both, with the report in hand
 settled : (c : tie.After-report-of) {r : Report} → c .report-of .result ≡ r
-    → result (c .before .before .before .before .before .before .args .state) (c .before .before .before .before .before .before .args .what) (answerBy r)
-    ≡ injected (c .before .before .before .before .before .before .args .state) (c .before .before .before .before .before .before .args .what)
+    → result (c .before .before .before .before .before .before .before .args .state) (c .before .before .before .before .before .before .before .args .what) (answerBy r)
+    ≡ injected (c .before .before .before .before .before .before .before .args .state) (c .before .before .before .before .before .before .before .args .what)
 settled c e =
     let tested = c .before .before in
     by-answer _ _
@@ -53,7 +53,7 @@ sound-requires c κs = search needs
 
 returns : tie.Need-returns
 returns c =
-    let start = c .before .before in
+    let start = c .before .before .before in
     promised (start .args .state) (start .args .what)
     (by-answer (start .args .state) (start .args .what)
     (unsound (start .args .state) (start .args .what) (sym (c .before .sound .ensures) ∙ not-true _ (c .if1 .taken))))
@@ -63,7 +63,7 @@ aligned-requires c κs = search needs
 
 returns-2 : tie.Need-returns-2
 returns-2 c =
-    let start = c .before .before .before .before in
+    let start = c .before .before .before .before .before in
     promised (start .args .state) (start .args .what)
     (by-answer (start .args .state) (start .args .what)
     (unaligned (start .args .state) (start .args .what) (passed-sound (c .before .before)) (sym (c .before .aligned .ensures) ∙ not-true _ (c .if2 .taken))))
@@ -96,7 +96,7 @@ returns-5 : tie.Need-returns-5
 returns-5 c =
     let past = c .before .before .before .before .before in
     let e = c .before .before .before .faults .given .1 in
-    let start = past .before .before .before .before .before .before in
+    let start = past .before .before .before .before .before .before .before in
     promised (start .args .state) (start .args .what)
     (taken (start .args .state) (start .args .what) (c .before .injection-row .ensures) (sym (past .report-of .ensures) ∙ e) (c .enter .ensures)
     ∙ settled past e)
