@@ -3,13 +3,13 @@ use Prim.Native.Nat.{ℕ, _+_, _*_, _^_}
 use mathlib.Core.Bool.{Bool, cond, _&&_}
 use lib.Dec.{eqb}
 use Rattle.bits.specs.Field.{fieldOf}
-use Rattle.edition.specs.Feature.{lpa2}
+use Rattle.edition.specs.Feature.{lpa}
 use Rattle.address.specs.declared.Far.{Far}
 use Rattle.address.specs.declared.Hpfar.{Hpfar}
 
--- the page number is HPFAR 43:4 with LPA2, else 39:4
+-- the page number is HPFAR 43:4 with LPA, else 39:4 (02, C-16)
 abbrev pub pageTop : ℕ → ℕ
-pageTop e = cond (lpa2 e) 43 39
+pageTop e = cond (lpa e) 43 39
 
 -- other bits of HPFAR must be 0, and so must 63:32 of FAR
 abbrev pub hpfarRule : ℕ → Hpfar → Bool

@@ -75,7 +75,7 @@ pub fn hpfar_counts(a: Addresses) -> bool
 fn above_page(edition: u32) -> u32
     ensures { λ n. ⌜ n ≡ pageTop edition + 1 ⌝ }
 {
-    if edition::has_lpa2(edition) { 44 } else { 40 }
+    if edition::has_lpa(edition) { 44 } else { 40 }
 }
 
 // Whether no bit outside the edition's page field is set: what is above it, and what is below.

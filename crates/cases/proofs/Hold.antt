@@ -99,17 +99,17 @@ all-hold = (
           (
             λ e h. (NoEdition, none-everywhere (record { 0 = 0x93830085 }) e h refl refl refl refl, refl, refl, refl),
             (
-              (OtherEditions 85 4, refl, refl, refl, refl),
+              (OtherEditions 21845 8, refl, refl, refl, refl),
               (
-                (OtherEditions 68 2, refl, refl, refl, refl),
+                (OtherEditions 17476 4, refl, refl, refl, refl),
                 (
-                  (OtherEditions 240 4, refl, refl, refl, refl),
+                  (OtherEditions 61680 8, refl, refl, refl, refl),
                   (
-                    (OtherEditions 170 4, refl, refl, refl, refl),
+                    (OtherEditions 43690 8, refl, refl, refl, refl),
                     (
                       λ e h. (NoEdition, none-everywhere (record { 0 = 0x92000810 }) e h refl refl refl refl, refl, refl, refl),
                       (
-                        (OtherEditions 85 4, refl, refl, refl, refl),
+                        (OtherEditions 21845 8, refl, refl, refl, refl),
                         (
                           λ s whole st p v sc. undefined s 0x10 0x8000 0x1000 0 whole refl refl st p v sc,
                           (

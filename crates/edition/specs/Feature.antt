@@ -1,4 +1,4 @@
--- Editions as sets of chip features (01, 'Editions'): RAS counts 1, LPA2 counts 2, HAFDBS counts 4.
+-- Editions as sets of chip features (01, 'Editions', and 02, C-16): RAS counts 1, LPA2 counts 2, HAFDBS counts 4, LPA counts 8.
 use Prim.Native.Nat.{ℕ}
 use mathlib.Core.Bool.{Bool}
 use lib.Dec.{ltb}
@@ -6,7 +6,7 @@ use Rattle.bits.specs.Field.{bitOf}
 
 -- how many editions there are
 abbrev pub editions : ℕ
-editions = 8
+editions = 16
 
 abbrev pub isEdition : ℕ → Bool
 isEdition e = ltb e editions
@@ -19,3 +19,6 @@ lpa2 e = bitOf e 1
 
 abbrev pub hafdbs : ℕ → Bool
 hafdbs e = bitOf e 2
+
+abbrev pub lpa : ℕ → Bool
+lpa e = bitOf e 3

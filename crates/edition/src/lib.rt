@@ -1,21 +1,21 @@
 // Editions of the Arm manual as sets of chip features, masks of editions, and the refusals that go by them.
 ghost use mathlib.Core.Path.{_≡_};
 ghost use mathlib.Core.Bool.{true, not};
-ghost use Rattle.edition.specs.Feature.{isEdition, ras, lpa2};
+ghost use Rattle.edition.specs.Feature.{isEdition, ras, lpa};
 ghost use Rattle.edition.specs.Mask.{maskOf};
 ghost use Rattle.edition.specs.Judge.{refusalNumber, refusalMask, refusalCount, judgeOf};
 
 // How many editions there are. A mask of editions is a u32, which has room for more.
-pub const EDITIONS: u32 = 8;
+pub const EDITIONS: u32 = 16;
 
 // The editions that have each feature, and all of them: for constant tables. A function below says which editions each of the first two are.
-pub const ALL: u32 = 0xFF;
+pub const ALL: u32 = 0xFFFF;
 
-pub const RAS: u32 = 0xAA;
+pub const RAS: u32 = 0xAAAA;
 
-pub const LPA2: u32 = 0xCC;
+pub const LPA2: u32 = 0xCCCC;
 
-pub const HAFDBS: u32 = 0xF0;
+pub const HAFDBS: u32 = 0xF0F0;
 
 // Why a word or a record is refused.
 pub enum Refusal {
@@ -108,11 +108,11 @@ pub fn no_ras_editions() -> u32
     ALL - RAS
 }
 
-// Whether an edition has LPA2, which counts 2.
-pub fn has_lpa2(edition: u32) -> bool
-    ensures { λ r. ⌜ r ≡ lpa2 edition ⌝ }
+// Whether an edition has LPA, which counts 8.
+pub fn has_lpa(edition: u32) -> bool
+    ensures { λ r. ⌜ r ≡ lpa edition ⌝ }
 {
-    bits::bit(edition as u64, 1)
+    bits::bit(edition as u64, 3)
 }
 
 // What an edition says of something that the editions of a mask have.

@@ -7,7 +7,8 @@ use Prim.Native.Char.{code}
 use borrow.Author.Tests.{eq-eqb, ne-eqb}
 use lib.ListN.{length, getD, drop}
 use Rattle.text.specs.declared.Digit.{Digit}
-use Rattle.line.specs.Line.{editionDigit, wordOf, questionOf, lineOf}
+use Rattle.text.specs.Digit.{hexDigit}
+use Rattle.line.specs.Line.{wordOf, questionOf, lineOf}
 use Rattle.line.specs.declared.Line.{Line}
 use Rattle.line.specs.declared.Word.{Word}
 
@@ -20,7 +21,7 @@ module _ (line : List ℕ) where
   unfolding lineOf
   no-space l s = simp (eq-eqb (length line) 18 l, ne-eqb (getD line 1 0) (code " ") s)
 
-  pub asked : {d : Digit} {w : Word} → length line ≡ 18 → getD line 1 0 ≡ code " " → editionDigit (getD line 0 0) ≡ d → wordOf (drop 2 line) ≡ w
+  pub asked : {d : Digit} {w : Word} → length line ≡ 18 → getD line 1 0 ≡ code " " → hexDigit (getD line 0 0) ≡ d → wordOf (drop 2 line) ≡ w
       → lineOf line ≡ questionOf d w
   unfolding lineOf
   asked l s d w = simp (eq-eqb (length line) 18 l, eq-eqb (getD line 1 0) (code " ") s) (ap₂ questionOf d w)

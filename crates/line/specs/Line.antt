@@ -1,18 +1,14 @@
--- The line of the program: one digit for the edition, a space, 16 hexadecimal digits of either case. Every other line is no line.
-use Prim.Native.Nat.{ℕ, _+_, _-_, _*_}
+-- The line of the program (01, the last lines of 'Cases', and 02, C-16): one hexadecimal digit for the edition, a space, 16 hexadecimal digits, all of either case. Every other line is no line.
+use Prim.Native.Nat.{ℕ, _+_, _*_}
 use Prim.Native.Char.{code}
 use mathlib.Core.Bool.{cond, _&&_}
 use mathlib.Core.List.{List, [], _∷_}
 use lib.Dec.{eqb}
 use lib.ListN.{length, getD, drop}
-use Rattle.text.specs.Digit.{within, hexDigit}
+use Rattle.text.specs.Digit.{hexDigit}
 use Rattle.text.specs.declared.Digit.{Digit}
 use Rattle.line.specs.declared.Line.{Line}
 use Rattle.line.specs.declared.Word.{Word}
-
--- the edition is one decimal digit
-abbrev pub editionDigit : ℕ → Digit
-editionDigit byte = cond (within (code "0") (code "9") byte) (Digit.Value (byte - code "0")) Digit.None
 
 -- the number that hexadecimal digits make, counted on from the value of those before
 abbrev pub onDigit : Digit → (ℕ → Word) → Word
@@ -34,5 +30,5 @@ questionOf Digit.None word = Line.NoLine
 -- the line, without its newline: 1 + 1 + 16 bytes
 unfoldable pub lineOf : List ℕ → Line
 lineOf line =
-    cond (eqb (length line) 18 && eqb (getD line 1 0) (code " ")) (questionOf (editionDigit (getD line 0 0)) (wordOf (drop 2 line)))
+    cond (eqb (length line) 18 && eqb (getD line 1 0) (code " ")) (questionOf (hexDigit (getD line 0 0)) (wordOf (drop 2 line)))
     Line.NoLine

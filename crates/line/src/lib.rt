@@ -1,10 +1,10 @@
-// A line of the program's input: one digit for the edition, a space, and 16 hexadecimal digits of either case for the word.
+// A line of the program's input: one hexadecimal digit for the edition, a space, and 16 hexadecimal digits of either case for the word.
 //
 // `parse` reads a whole line. `start`, `feed` and `finish` read one of any length, a byte at a time.
 ghost use mathlib.Core.Path.{_≡_};
 ghost use Prim.Native.Nat.{_≤_};
 ghost use lib.ListN.{length};
-ghost use Rattle.line.specs.Line.{editionDigit, wordOf, lineOf};
+ghost use Rattle.line.specs.Line.{wordOf, lineOf};
 ghost use Rattle.line.specs.Feed.{started, fed, finished};
 use text::Digit;
 
@@ -22,16 +22,6 @@ enum Word {
 
 // The edition, a space and the word.
 const LENGTH: usize = 18;
-
-// The edition is one decimal digit. Those above the last edition are read too, and refused by the reader.
-fn edition_digit(byte: u8) -> Digit
-    ensures { λ d. ⌜ d ≡ editionDigit byte ⌝ }
-{
-    match byte {
-        b'0'..=b'9' => Digit::Value((byte - b'0') as u32),
-        _ => Digit::None,
-    }
-}
 
 // The number that at most 16 hexadecimal digits make.
 fn hex_word(digits: &[u8]) -> Word
@@ -60,7 +50,7 @@ pub fn parse(line: &[u8]) -> Line
     if line[1] != b' ' {
         return Line::NoLine;
     }
-    let Digit::Value(edition) = edition_digit(line[0]) else {
+    let Digit::Value(edition) = text::hex_digit(line[0]) else {
         return Line::NoLine;
     };
     let Word::Value(word) = hex_word(&line[2..]) else {

@@ -20,11 +20,11 @@ shared-slice-read-if2 c = search needs
 returns-2 : tie.Need-returns-2
 returns-2 c = sym (no-space (now (c .before .before .before .before .args .line)) (c .before .before .if1 .left) (c .if2 .taken))
 
-shared-slice-read-edition-digit : tie.Need-shared-slice-read-edition-digit
-shared-slice-read-edition-digit c = search needs
+shared-slice-read-hex-digit : tie.Need-shared-slice-read-hex-digit
+shared-slice-read-hex-digit c = search needs
 
-edition-digit-requires : tie.Need-edition-digit-requires
-edition-digit-requires c κs = search needs
+hex-digit-requires : tie.Need-hex-digit-requires
+hex-digit-requires c κs = search needs
 
 enum-known-edition : tie.Need-enum-known-edition
 enum-known-edition c = search needs
@@ -36,7 +36,7 @@ returns-3 : tie.Need-returns-3
 returns-3 c =
     let e = c .before .before .before .before in
     sym (asked (now (e .before .before .before .before .args .line)) (e .before .before .if1 .left) (e .if2 .left)
-    (sym (c .before .before .edition-digit .ensures) ∙ c .enum-told .given .1) refl)
+    (sym (c .before .before .hex-digit .ensures) ∙ c .enum-told .given .1) refl)
 
 sub-hex-word : tie.Need-sub-hex-word
 sub-hex-word c = search needs
@@ -66,7 +66,7 @@ returns-4 c =
     let e = k .before .before .before .before .before in
     let line = now (e .before .before .before .before .args .line) in
     sym (asked line (e .before .before .if1 .left) (e .if2 .left)
-    (sym (k .before .before .before .edition-digit .ensures) ∙ k .before .edition .given .1)
+    (sym (k .before .before .before .hex-digit .ensures) ∙ k .before .edition .given .1)
     (ap wordOf (sym (rest line)) ∙ sym (c .before .before .hex-word .ensures) ∙ c .enum-told2 .given .1))
 
 returns-5 : tie.Need-returns-5
@@ -75,7 +75,7 @@ returns-5 c =
     let e = k .before .before .before .before .before in
     let line = now (e .before .before .before .before .args .line) in
     sym (asked line (e .before .before .if1 .left) (e .if2 .left)
-    (sym (k .before .before .before .edition-digit .ensures) ∙ k .before .edition .given .1)
+    (sym (k .before .before .before .hex-digit .ensures) ∙ k .before .edition .given .1)
     (ap wordOf (sym (rest line)) ∙ sym (c .before .before .before .hex-word .ensures) ∙ c .before .word .given .1))
 
 pub parse-spec : {M : Type 1} → statement M
@@ -85,8 +85,8 @@ parse-spec =
     returns
     shared-slice-read-if2
     returns-2
-    shared-slice-read-edition-digit
-    edition-digit-requires
+    shared-slice-read-hex-digit
+    hex-digit-requires
     enum-known-edition
     enum-told
     returns-3
