@@ -52,13 +52,13 @@ const READS: [ReadCase; 27] = [
     reads(0x9183_0005, "0 9 0 1 2 0 3 0 0 0 0 0 0 0 0 5"),
     reads(0x9000_0005, "4 0 0"),
     reads(0x9383_0085, "5 0 0"),
-    // The masks are 85, 68, 240, 170 and 85.
-    reads_in(1, 0x9200_0018, "6 55 4"),
-    reads_in(7, 0x9200_001b, "6 44 2"),
-    reads_in(3, 0x9200_0031, "6 f0 4"),
-    reads_in(0, 0x9200_1010, "6 aa 4"),
+    // The masks are 21845, 17476, 61680, 43690 and 21845.
+    reads_in(1, 0x9200_0018, "6 5555 8"),
+    reads_in(7, 0x9200_001b, "6 4444 4"),
+    reads_in(3, 0x9200_0031, "6 f0f0 8"),
+    reads_in(0, 0x9200_1010, "6 aaaa 8"),
     reads(0x9200_0810, "5 0 0"),
-    reads_in(1, 0x9383_0014, "6 55 4"),
+    reads_in(1, 0x9383_0014, "6 5555 8"),
     reads(0x8200_0021, "5 0 0"),
     reads(0x1_9200_0005, "2 0 0"),
     // The first line that the paper's program is given.

@@ -1,6 +1,7 @@
 //! Editions as sets of features, and sets of editions.
 
-/// An edition by its number: RAS counts 1, LPA2 counts 2, HAFDBS counts 4.
+/// An edition by its number: RAS counts 1, LPA2 counts 2, HAFDBS counts 4 and
+/// LPA counts 8.
 #[derive(Clone, Copy, Debug, PartialEq, Eq)]
 pub struct Edition(pub u32);
 
@@ -15,6 +16,10 @@ impl Edition {
 
     pub fn hafdbs(self) -> bool {
         self.counts(4)
+    }
+
+    pub fn lpa(self) -> bool {
+        self.counts(8)
     }
 
     fn counts(self, feature: u32) -> bool {

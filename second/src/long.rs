@@ -4,7 +4,7 @@
 use crate::edition::Edition;
 use crate::form::{bit, field, Family, Field, Form, Kind};
 
-pub static LONG: Form = Form { kinds: &KINDS, editions: 8, needs_il, families };
+pub static LONG: Form = Form { kinds: &KINDS, editions: 16, needs_il, families };
 
 const IL: Field = bit("IL", 25);
 const CV: Field = bit("CV", 24);

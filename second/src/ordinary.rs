@@ -5,10 +5,10 @@ use crate::edition::EditionMask;
 use crate::long::LONG;
 use crate::syndrome::Refusal;
 
-const RAS: u32 = 0b1010_1010;
-const LPA2: u32 = 0b1100_1100;
-const HAFDBS: u32 = 0b1111_0000;
-const ALL: u32 = 0b1111_1111;
+const RAS: u32 = 0xaaaa;
+const LPA2: u32 = 0xcccc;
+const HAFDBS: u32 = 0xf0f0;
+const ALL: u32 = 0xffff;
 
 /// A record as this reader holds it. Nobody reads it: it is built since the
 /// proved reader builds one too.

@@ -154,16 +154,16 @@ fn wait_until_asleep(id: u32) -> io::Result<()> {
     Err(io::Error::other("the program doesn't come to read"))
 }
 
-/// Document 01: one digit for the edition, a space and 16 hexadecimal digits.
+/// Document 01 and C-16: one hexadecimal digit for the edition, a space and 16
+/// for the word.
 fn question(line: &[u8]) -> Option<(u32, u64)> {
     let line = std::str::from_utf8(line).ok()?;
     let (edition, word) = line.split_once(' ')?;
-    let are_digits = edition.bytes().all(|byte| byte.is_ascii_digit())
-        && word.bytes().all(|byte| byte.is_ascii_hexdigit());
-    if edition.len() != 1 || word.len() != 16 || !are_digits {
+    let are_digits = |text: &str| text.bytes().all(|byte| byte.is_ascii_hexdigit());
+    if edition.len() != 1 || word.len() != 16 || !are_digits(edition) || !are_digits(word) {
         return None;
     }
-    Some((edition.parse().ok()?, u64::from_str_radix(word, 16).ok()?))
+    Some((u32::from_str_radix(edition, 16).ok()?, u64::from_str_radix(word, 16).ok()?))
 }
 
 /// What the trap reader writes for an input.
@@ -200,8 +200,8 @@ fn trapread_inputs() -> Vec<(&'static str, Vec<u8>)> {
         ("a last line of a space", "\n "),
         ("digits of either case", "7 000000009200001b\n7 000000009200001B\n7 00000000920000lb\n"),
         (
-            "editions that don't exist",
-            "8 0000000092000005\n9 0000000092000005\na 0000000092000005\n",
+            "editions of either case",
+            "9 0000000092000018\nb 0000000092000018\nF 0000000092000018\ng 0000000092000018\n",
         ),
         ("other spaces", "0\t0000000092000005\n 0 0000000092000005\n0 0000000092000005 \n"),
         ("other ends", "0 0000000092000005\r\n0 0000000092000005\0\n"),
@@ -212,7 +212,7 @@ fn trapread_inputs() -> Vec<(&'static str, Vec<u8>)> {
         long_input(18, |random| {
             let word =
                 if random.below(2) == 0 { 0x9200_0000 + random.below(64) } else { random.next() };
-            format!("{} {word:016x}", random.below(10))
+            format!("{:x} {word:016x}", random.below(16))
         }),
     ));
     inputs.push(("a line of some hundred KiB", "0".repeat(300_000).into_bytes()));
@@ -268,6 +268,6 @@ mod tests {
     #[test]
     fn the_paper_s_lines_are_answered_as_it_says() {
         let input = b"0 0000000092000005\n1 0000000092000018\nx\n";
-        assert_eq!(trapread(input), b"taken\nrefused 6 85 4\nno line\n");
+        assert_eq!(trapread(input), b"taken\nrefused 6 21845 8\nno line\n");
     }
 }

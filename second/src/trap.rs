@@ -87,9 +87,9 @@ fn hpfar_counts(record: &Record) -> bool {
 }
 
 /// The page address of HPFAR, whose page number begins at bit 4 and ends at
-/// bit 43 with LPA2, else at bit 39.
+/// bit 43 with LPA, else at bit 39.
 fn page(edition: u32, hpfar: u64) -> Result<u64, Refusal> {
-    let width = if Edition(edition).lpa2() { 40 } else { 36 };
+    let width = if Edition(edition).lpa() { 40 } else { 36 };
     let number = hpfar / 16;
     if !hpfar.is_multiple_of(16) || number >= 1 << width {
         return Err(Refusal::plain(7));
@@ -127,10 +127,11 @@ mod tests {
     }
 
     #[test]
-    fn lpa2_widens_the_page_number() {
+    fn lpa_widens_the_page_number() {
         let top_page = Intermediate::Page(0xf_ffff_ffff_f000);
         assert_eq!(trap(0, 0x9200_0085, 0, 0xfff_ffff_fff0), Err(7));
-        let wide = trap(2, 0x9200_0085, 0, 0xfff_ffff_fff0).expect("taken");
+        assert_eq!(trap(2, 0x9200_0085, 0, 0xfff_ffff_fff0), Err(7));
+        let wide = trap(8, 0x9200_0085, 0, 0xfff_ffff_fff0).expect("taken");
         assert_eq!(wide.intermediate, top_page);
     }
 }

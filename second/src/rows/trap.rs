@@ -56,7 +56,7 @@ fn refused_syndromes() -> Vec<Call> {
     for (edition, esr) in refused {
         for addresses in GOOD_AND_BAD {
             questions.push(trap(edition, esr, addresses));
-            for other in [2, 3, 4, no_edition] {
+            for other in [2, 3, 12, no_edition] {
                 questions.push(both([edition, other], esr, addresses));
                 questions.push(both([other, edition], esr, addresses));
             }
@@ -71,7 +71,7 @@ fn every_sample() -> Vec<Call> {
     for sample in samples() {
         for addresses in GOOD_AND_BAD {
             let edition = editions.next();
-            let other = (edition + 3) % LONG.editions;
+            let other = (edition + 9) % LONG.editions;
             questions.push(trap(edition, word(&sample), addresses));
             questions.push(both([edition, other], word(&sample), addresses));
         }
@@ -90,7 +90,7 @@ fn every_fault_code() -> Vec<Call> {
             ["S1PTW", "FnV"].into_iter().flat_map(|name| sweep(&abort, &format!("{name} code")));
         for record in known.chain(sweep(&with(&abort, "code", 0x10), "FnV EA")) {
             let edition = editions.next();
-            let other = (edition + 2) % LONG.editions;
+            let other = (edition + 8) % LONG.editions;
             let bad = GOOD_AND_BAD[1 + bad.next() as usize];
             questions.push(trap(edition, word(&record), GOOD));
             questions.push(trap(edition, word(&record), bad));
@@ -108,12 +108,12 @@ fn every_fault_code() -> Vec<Call> {
 fn register_bits() -> Vec<Call> {
     let mut questions = Vec::new();
     for bit in 0..64 {
-        questions.push(trap(bit % 8, 0x9200_0005, (1 << bit, 0)));
-        for edition in [0, 2] {
+        questions.push(trap(bit % LONG.editions, 0x9200_0005, (1 << bit, 0)));
+        for edition in [0, 2, 8] {
             questions.push(trap(edition, 0x9200_0005, (0, 1 << bit)));
         }
-        questions.push(both([0, 2], 0x9200_0085, (0, 1 << bit)));
-        questions.push(both([2, 0], 0x9200_0085, (0, 1 << bit)));
+        questions.push(both([2, 8], 0x9200_0085, (0, 1 << bit)));
+        questions.push(both([8, 2], 0x9200_0085, (0, 1 << bit)));
     }
     let syndromes = [
         0x9200_0085,
@@ -136,7 +136,7 @@ fn register_bits() -> Vec<Call> {
         }
         for bit in [0, 3, 4, 39, 40, 43, 44, 63] {
             let edition = editions.next();
-            let other = (edition + 2) % LONG.editions;
+            let other = (edition + 8) % LONG.editions;
             questions.push(trap(edition, esr, (0, 1 << bit)));
             questions.push(trap(other, esr, (0, 1 << bit)));
             questions.push(both([edition, other], esr, (0, 1 << bit)));
