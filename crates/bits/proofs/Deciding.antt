@@ -3,11 +3,11 @@
 use mathlib.Core.Path.{_≡_, refl, sym, _∙_, ap, subst}
 use mathlib.Core.Bool.{Bool, true, false, cond, not, _&&_, true≢false}
 use mathlib.Core.List.{List, [], _∷_, _++_}
-use mathlib.Core.Logic.{_↔_}
+use mathlib.Core.Logic.{_⊎_, inl, inr, _↔_}
 use Prim.Native.Nat.{ℕ}
 use borrow.Author.Tests.{eqb-true, eq-eqb}
 use lib.Dec.{T, eqb}
-use Rattle.bits.specs.Decide.{Test, needs, decide, relabel, AllPass, Either, FirstFails, unused, distinct}
+use Rattle.bits.specs.Decide.{Test, needs, decide, relabel, AllPass, Either, FirstFails, unused, distinct, FailsWith}
 use Rattle.bits.proofs.Booleans.{both-left, both-right}
 
 -- an answer of the answer is the answer of the tests with that answer
@@ -71,6 +71,22 @@ fails-decided (needs false number ∷ tests) k f = by (eqb k number) refl f
 pub decided-exactly : (tests : List (Test ℕ)) → T (distinct tests) → (k : ℕ) → (decide tests 0 ≡ k) ↔ FirstFails k tests
 decided-exactly tests d k = (decided-fails tests d k, fails-decided tests k)
 
+-- the same where two tests may share a number
+decided-with : (tests : List (Test ℕ)) (k : ℕ) → decide tests 0 ≡ k → FailsWith k tests
+decided-with [] k e = sym e
+decided-with (needs true number ∷ tests) k e = inr (refl, decided-with tests k e)
+decided-with (needs false number ∷ tests) k e = inl (refl, sym e)
+
+with-decided : (tests : List (Test ℕ)) (k : ℕ) → FailsWith k tests → decide tests 0 ≡ k
+with-decided [] k f = sym f
+with-decided (needs true number ∷ tests) k (inl f) = absurd (true≢false (f .0))
+with-decided (needs true number ∷ tests) k (inr f) = with-decided tests k (f .1)
+with-decided (needs false number ∷ tests) k (inl f) = sym (f .1)
+with-decided (needs false number ∷ tests) k (inr f) = absurd (true≢false (sym (f .0)))
+
+pub decided-with-exactly : (tests : List (Test ℕ)) (k : ℕ) → (decide tests 0 ≡ k) ↔ FailsWith k tests
+decided-with-exactly tests k = (decided-with tests k, with-decided tests k)
+
 -- every answer is the last one or a test's
 abbrev pub OneOf : {A : Type 0} → (A → Type 0) → List (Test A) → Type 0
 OneOf P [] = Unit {0}
@@ -80,3 +96,22 @@ pub answer-is : {A : Type 0} (P : A → Type 0) (tests : List (Test A)) (last : 
 answer-is P [] last all p = p
 answer-is P (needs true answer ∷ tests) last all p = answer-is P tests last (all .1) p
 answer-is P (needs false answer ∷ tests) last all p = all .0
+
+-- where every test passes, so it is with other answers
+pub all-pass-relabel : {A B : Type 0} (f : A → B) (tests : List (Test A)) (last : B) → AllPass tests → decide (relabel f tests) last ≡ last
+all-pass-relabel f [] last p = refl
+all-pass-relabel f (needs passes answer ∷ tests) last p =
+    ap (λ (b : Bool). cond b (decide (relabel f tests) last) (f answer)) (p .0) ∙ all-pass-relabel f tests last (p .1)
+
+-- all pass, or one fails first, and its answer comes whatever the last one is
+abbrev pub Failing : {A B : Type 0} → (A → Type 0) → (A → B) → List (Test A) → Type 0
+Failing {A} {B} P f tests = (a : A) × P a × (AllPass tests → ⊥) × ((last : B) → decide (relabel f tests) last ≡ f a)
+
+pub first-failing : {A B : Type 0} (P : A → Type 0) (f : A → B) (tests : List (Test A)) → OneOf P tests → AllPass tests ⊎ Failing P f tests
+first-failing P f [] all = inl tt
+first-failing P f (needs false answer ∷ tests) all = inr (answer, all .0, λ p. true≢false (sym (p .0)), λ last. refl)
+first-failing P f (needs true answer ∷ tests) all = by (first-failing P f tests (all .1))
+  where
+    by : AllPass tests ⊎ Failing P f tests → AllPass (needs true answer ∷ tests) ⊎ Failing P f (needs true answer ∷ tests)
+    by (inl p) = inl (refl, p)
+    by (inr fails) = inr (fails .0, fails .1, λ p. fails .2 (p .1), fails .3)

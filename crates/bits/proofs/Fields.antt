@@ -1,16 +1,16 @@
 -- Laws of layouts, over every list of fields: what stands at a field's bits of the word is its value, and `|` adds the fields up.
 -- Assumes nothing.
-use mathlib.Core.Path.{_≡_, _∙_, sym, ap, subst}
-use mathlib.Core.Bool.{Bool, true, false, _&&_}
+use mathlib.Core.Path.{_≡_, refl, _∙_, sym, ap, subst}
+use mathlib.Core.Bool.{Bool, true, false, _&&_, and-true, and-assoc}
 use mathlib.Core.List.{List, [], _∷_}
 use Prim.Native.Nat.{ℕ, _+_, _-_, _*_, _%_, _^_, _≤_, _<_}
 use native.Mathlib.Nat.{add-assoc, add-mul, add-zero, zero-add, zero-mul, lt-of-lt-of-le, mod-eq-of-lt, sub-add-cancel}
 use native.Mathlib.Omega.{arith}
 use lib.Arith.{digits-lt}
 use lib.Bits.{bitOr, or-shifted}
-use lib.Dec.{T, leb, ltb, leb→le, ltb→lt, lit<}
+use lib.Dec.{T, leb, ltb, eqb, leb→le, ltb→lt, lit<}
 use lib.Pow.{pow-pos, pow-mono, pow-add, shl-lt, high, low}
-use Rattle.bits.specs.Field.{widthOf, fieldOf, digit, placedOf}
+use Rattle.bits.specs.Field.{widthOf, fieldOf, bitOf, digit, placedOf}
 use Rattle.bits.specs.Layout.{Field, at, flagAt, highOf, lowOf, valueOf, wordOf, fitting, ordered}
 use Rattle.bits.specs.Inner.{joinedFrom}
 use Rattle.bits.proofs.Booleans.{both-left, both-right}
@@ -40,6 +40,18 @@ pub digit-below : (b : Bool) → digit b < 2
 digit-below true = lit< tt
 digit-below false = lit< tt
 
+-- the fields tested from the first on, as code tests them: a test of what came before, and then each number
+abbrev pub fittingAfter : Bool → List Field → Bool
+fittingAfter before [] = before
+fittingAfter before (at high low value ∷ fs) = fittingAfter (before && ltb value (2 ^ widthOf high low)) fs
+fittingAfter before (flagAt n b ∷ fs) = fittingAfter before fs
+
+pub fitting-after : (before : Bool) (fs : List Field) → fittingAfter before fs ≡ (before && fitting fs)
+fitting-after before [] = sym (and-true before)
+fitting-after before (at h l v ∷ fs) =
+    fitting-after (before && ltb v (2 ^ widthOf h l)) fs ∙ and-assoc before (ltb v (2 ^ widthOf h l)) (fitting fs)
+fitting-after before (flagAt n b ∷ fs) = fitting-after before fs
+
 value-fits : (f : Field) (fs : List Field) → T (fitting (f ∷ fs)) → valueOf f < 2 ^ widthOf (highOf f) (lowOf f)
 value-fits (at h l v) fs t =
     ltb→lt v (2 ^ widthOf h l) (both-left (ltb v (2 ^ widthOf h l)) (fitting fs) t)
@@ -50,6 +62,15 @@ value-fits (flagAt n b) fs t =
 rest-fits : (f : Field) (fs : List Field) → T (fitting (f ∷ fs)) → T (fitting fs)
 rest-fits (at h l v) fs t = both-right (ltb v (2 ^ widthOf h l)) (fitting fs) t
 rest-fits (flagAt n b) fs t = t
+
+-- a bit says its yes or no again
+pub digit-back : (b : Bool) → eqb (digit b) 1 ≡ b
+digit-back true = refl
+digit-back false = refl
+
+-- a yes or no at a bit of a word
+pub flag-back : (w n : ℕ) (b : Bool) → fieldOf w n n ≡ digit b → bitOf w n ≡ b
+flag-back w n b h = ap (λ (d : ℕ). eqb d 1) h ∙ digit-back b
 
 -- a value at its bits stays below the top
 value-below : (top : ℕ) (f : Field) (fs : List Field) → T (ordered top (f ∷ fs)) → T (fitting (f ∷ fs)) → valueOf f < 2 ^ (top - lowOf f)

@@ -3,6 +3,7 @@
 use mathlib.Core.Path.{_≡_}
 use mathlib.Core.Bool.{Bool, true, false, cond, not, _&&_}
 use mathlib.Core.List.{List, [], _∷_}
+use mathlib.Core.Logic.{_⊎_}
 use Prim.Native.Nat.{ℕ}
 use lib.Dec.{eqb}
 
@@ -43,3 +44,8 @@ unused k (needs passes number ∷ tests) = not (eqb k number) && unused k tests
 abbrev pub distinct : List (Test ℕ) → Bool
 distinct [] = true
 distinct (needs passes number ∷ tests) = unused number tests && distinct tests
+
+-- the first test that fails has a number, where two tests may share one; for 0, no test fails
+abbrev pub FailsWith : ℕ → List (Test ℕ) → Type 0
+FailsWith k [] = k ≡ 0
+FailsWith k (needs passes number ∷ tests) = ((passes ≡ false) × (k ≡ number)) ⊎ ((passes ≡ true) × FailsWith k tests)

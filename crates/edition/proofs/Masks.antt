@@ -1,7 +1,7 @@
 -- Laws of masks, over every test and every number of editions.
 -- Assumes nothing.
 use mathlib.Core.Path.{_≡_, refl, _∙_, sym, ap, ap₂, subst}
-use mathlib.Core.Bool.{Bool, true, false, cond, _&&_}
+use mathlib.Core.Bool.{Bool, true, false, cond, _&&_, _||_, and-true, and-false}
 use mathlib.Core.Logic.{_⊎_, inl, inr, ⊎-elim}
 use Prim.Native.Nat.{ℕ, zero, suc, _+_, _-_, _*_, _/_, _%_, _^_, _≤_, _<_}
 use native.Mathlib.Nat.{zero-mul, eq-or-lt-of-le, le-of-suc-le-suc, le-refl, lt-of-lt-of-le, mul-add-mod-self-right, mod-eq-of-lt, div-eq-of-lt, zero-mod, not-suc-le-zero}
@@ -9,18 +9,14 @@ use native.Mathlib.Numerals.{one-add}
 use native.Mathlib.Omega.{arith}
 use lib.Arith.{digits-lt}
 use lib.Bits.{bitAnd, and-block}
+use lib.Count.{ones, onesIn, ones-cat}
 use lib.Dec.{eqb, lit<}
 use lib.Pow.{pow-pos, pow-mono, pow-add, high, field}
 use Rattle.bits.specs.Field.{widthOf, fieldOf, bitOf, digit}
 use Rattle.bits.proofs.Powers.{shift-by-way}
-use Rattle.bits.proofs.Fields.{digit-below}
+use Rattle.bits.proofs.Fields.{digit-below, digit-back}
 use Rattle.edition.specs.Feature.{editions}
-use Rattle.edition.specs.Mask.{maskBelow, maskOf}
-
--- a bit says its yes or no again
-pub digit-back : (b : Bool) → eqb (digit b) 1 ≡ b
-digit-back true = refl
-digit-back false = refl
+use Rattle.edition.specs.Mask.{maskBelow, maskOf, countBelow}
 
 digit-and : (a b : Bool) → bitAnd (digit a) (digit b) ≡ digit (a && b)
 digit-and true true = refl
@@ -47,10 +43,6 @@ mask-and zero p q = refl
 mask-and (suc n) p q =
     and-block n (digit (p n)) (digit (q n)) (maskBelow n p) (maskBelow n q) (mask-below n p) (mask-below n q)
     ∙ ap₂ (λ (d m : ℕ). d * 2 ^ n + m) (digit-and (p n) (q n)) (mask-and n p q)
-
-pub both-masks : (p q : ℕ → Bool) → bitAnd (maskOf p) (maskOf q) ≡ maskOf (λ e. p e && q e)
-unfolding maskOf
-both-masks p q = mask-and editions p q
 
 -- no test, no bit
 pub mask-none : (n : ℕ) → maskBelow n (λ e. false) ≡ 0
@@ -113,3 +105,38 @@ some-or-none (suc n) test = at-top (test n) refl (some-or-none n test)
     at-top true same below = inr (n, le-refl (suc n), same)
     at-top false same (inl z) = inl (ap₂ (λ (b : Bool) (m : ℕ). digit b * 2 ^ n + m) same z ∙ ap (λ (x : ℕ). x + 0) (zero-mul (2 ^ n)))
     at-top false same (inr found) = inr (found .0, omega (arith, found .1), found .2)
+
+-- THE NUMBER of refusal 6: the ones of a mask are how many numbers pass
+pub mask-ones : (n : ℕ) (test : ℕ → Bool) → ones (maskBelow n test) ≡ countBelow n test
+unfolding ones onesIn
+mask-ones zero test = refl
+mask-ones (suc n) test = ones-cat n (digit (test n)) (maskBelow n test) (mask-below n test) ∙ ap₂ _+_ (one (test n)) (mask-ones n test)
+  where
+    one : (b : Bool) → ones (digit b) ≡ digit b
+    one true = refl
+    one false = refl
+
+-- what has the mask of all, holds everywhere
+pub mask-everywhere : (n : ℕ) (test : ℕ → Bool) → maskBelow n test ≡ maskBelow n (λ e. true) → (e : ℕ) → e < n → test e ≡ true
+mask-everywhere n test same e h = sym (mask-bit n test e h) ∙ ap (λ (m : ℕ). bitOf m e) same ∙ mask-bit n (λ e. true) e h
+
+-- a test that holds by itself, or else where an edition passes one and a field another
+pub mask-either : (n : ℕ) (a b : Bool) (p : ℕ → Bool)
+    → maskBelow n (λ e. a || p e && b) ≡ cond a (maskBelow n (λ e. true)) (cond b (maskBelow n p) 0)
+mask-either n true b p = refl
+mask-either n false true p = mask-same n (λ e. p e && true) p (λ e h. and-true (p e))
+mask-either n false false p = mask-same n (λ e. p e && false) (λ e. false) (λ e h. and-false (p e)) ∙ mask-none n
+
+-- the same laws for the masks of the long form's editions
+pub both-masks : (p q : ℕ → Bool) → bitAnd (maskOf p) (maskOf q) ≡ maskOf (λ e. p e && q e)
+unfolding maskOf
+both-masks p q = mask-and editions p q
+
+pub either-mask : (a b : Bool) (p : ℕ → Bool) → maskOf (λ e. a || p e && b) ≡ cond a (maskOf (λ e. true)) (cond b (maskOf p) 0)
+unfolding maskOf
+either-mask = mask-either editions
+
+-- nothing that no edition has is in the mask
+pub empty-mask : (test : ℕ → Bool) → ((e : ℕ) → test e ≡ false) → 0 ≡ maskOf test
+unfolding maskOf
+empty-mask test none = sym (mask-same editions test (λ e. false) (λ e h. none e) ∙ mask-none editions)

@@ -1,4 +1,4 @@
--- Editions of the manual as sets of chip features: RAS counts 1, LPA2 counts 2, HAFDBS counts 4.
+-- Editions as sets of chip features (01, 'Editions'): RAS counts 1, LPA2 counts 2, HAFDBS counts 4.
 use Prim.Native.Nat.{ℕ}
 use mathlib.Core.Bool.{Bool}
 use lib.Dec.{ltb}

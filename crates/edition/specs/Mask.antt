@@ -1,4 +1,4 @@
--- An edition mask: bit e is 1 when edition e is meant.
+-- An edition mask (01, 'Editions'): bit e is 1 when edition e is meant.
 use Prim.Native.Nat.{ℕ, zero, suc, _+_, _*_, _^_}
 use mathlib.Core.Bool.{Bool}
 use Rattle.bits.specs.Field.{digit}
@@ -12,3 +12,8 @@ maskBelow (suc n) test = digit (test n) * 2 ^ n + maskBelow n test
 -- the mask of the editions of which a test holds
 unfoldable pub maskOf : (ℕ → Bool) → ℕ
 maskOf test = maskBelow editions test
+
+-- how many numbers below n pass a test
+abbrev pub countBelow : ℕ → (ℕ → Bool) → ℕ
+countBelow zero test = 0
+countBelow (suc n) test = digit (test n) + countBelow n test

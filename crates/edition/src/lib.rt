@@ -1,19 +1,21 @@
 // Editions of the Arm manual as sets of chip features, masks of editions, and the refusals that go by them.
 ghost use mathlib.Core.Path.{_≡_};
-ghost use Rattle.edition.specs.Feature.{isEdition, lpa2};
-ghost use Rattle.edition.specs.Judge.{numberOf, maskIn, countIn, judgeOf};
+ghost use mathlib.Core.Bool.{true, not};
+ghost use Rattle.edition.specs.Feature.{isEdition, ras, lpa2};
+ghost use Rattle.edition.specs.Mask.{maskOf};
+ghost use Rattle.edition.specs.Judge.{refusalNumber, refusalMask, refusalCount, judgeOf};
 
 // How many editions there are. A mask of editions is a u32, which has room for more.
 pub const EDITIONS: u32 = 8;
 
-// The editions that have each feature, and all of them.
+// The editions that have each feature, and all of them: for constant tables. A function below says which editions each of the first two are.
+pub const ALL: u32 = 0xFF;
+
 pub const RAS: u32 = 0xAA;
 
 pub const LPA2: u32 = 0xCC;
 
 pub const HAFDBS: u32 = 0xF0;
-
-pub const ALL: u32 = 0xFF;
 
 // Why a word or a record is refused.
 pub enum Refusal {
@@ -38,7 +40,7 @@ pub enum Verdict {
 
 // The refusal's number in the definition.
 pub fn number(refusal: Refusal) -> u32
-    ensures { λ r. ⌜ r ≡ numberOf refusal ⌝ }
+    ensures { λ r. ⌜ r ≡ refusalNumber refusal ⌝ }
 {
     match refusal {
         Refusal::UnknownEdition => 1,
@@ -52,7 +54,7 @@ pub fn number(refusal: Refusal) -> u32
 
 // The mask that a refusal carries.
 pub fn mask(refusal: Refusal) -> u32
-    ensures { λ r. ⌜ r ≡ maskIn refusal ⌝ }
+    ensures { λ r. ⌜ r ≡ refusalMask refusal ⌝ }
 {
     match refusal {
         Refusal::UnknownEdition => 0,
@@ -66,7 +68,7 @@ pub fn mask(refusal: Refusal) -> u32
 
 // The number of editions that a refusal carries.
 pub fn count(refusal: Refusal) -> u32
-    ensures { λ r. ⌜ r ≡ countIn refusal ⌝ }
+    ensures { λ r. ⌜ r ≡ refusalCount refusal ⌝ }
 {
     match refusal {
         Refusal::UnknownEdition => 0,
@@ -85,6 +87,27 @@ pub fn known(edition: u32) -> bool
     edition < EDITIONS
 }
 
+// Every edition.
+pub fn all_editions() -> u32
+    ensures { λ m. ⌜ m ≡ maskOf (λ e. true) ⌝ }
+{
+    ALL
+}
+
+// The editions that have RAS.
+pub fn ras_editions() -> u32
+    ensures { λ m. ⌜ m ≡ maskOf ras ⌝ }
+{
+    RAS
+}
+
+// The editions that don't have RAS.
+pub fn no_ras_editions() -> u32
+    ensures { λ m. ⌜ m ≡ maskOf (λ e. not (ras e)) ⌝ }
+{
+    ALL - RAS
+}
+
 // Whether an edition has LPA2, which counts 2.
 pub fn has_lpa2(edition: u32) -> bool
     ensures { λ r. ⌜ r ≡ lpa2 edition ⌝ }
@@ -96,11 +119,11 @@ pub fn has_lpa2(edition: u32) -> bool
 pub fn judge(edition: u32, mask: u32) -> Verdict
     ensures { λ r. ⌜ r ≡ judgeOf edition mask ⌝ }
 {
-    if bits::bit(mask as u64, edition) {
-        return Verdict::Taken;
-    }
     if mask == 0 {
         return Verdict::Refused(Refusal::NoEdition);
+    }
+    if bits::bit(mask as u64, edition) {
+        return Verdict::Taken;
     }
     Verdict::Refused(Refusal::OtherEditions(mask, u32::count_ones(mask)))
 }

@@ -1,26 +1,56 @@
--- Demand 3 for records: what a record that one edition wrote is in another.
+-- Demands 2 and 3 beside running code: a word that is read and written again, and a record that one edition wrote and another reads.
 use Prim.Native.Nat.{ℕ}
-use mathlib.Core.Bool.{cond}
-use lib.Count.{ones}
-use Rattle.edition.specs.Feature.{isEdition}
-use Rattle.edition.specs.declared.Refusal.the-variants.{UnknownEdition, OtherEditions}
-use Rattle.syndrome.specs.Has.{has, editionsOf}
-use Rattle.syndrome.specs.Answer.{writeOf}
-use Rattle.syndrome.specs.declared.record.Record.{Record}
+use mathlib.Core.Path.{_≡_}
+use mathlib.Core.List.{[], _∷_}
+use Rattle.bits.specs.Decide.{needs, decide}
+use Rattle.edition.specs.Feature.{editions, isEdition}
+use Rattle.edition.specs.Mask.{countBelow}
+use Rattle.form.specs.Call.{someHas, sixOnly}
+use Rattle.form.specs.Form as Form
+use Rattle.record.specs.Class.{headOf}
+use Rattle.record.specs.declared.kinds.Esr.{Esr}
+use Rattle.record.specs.declared.kinds.Record.{Record}
+use Rattle.rule.specs.Has.{has, recordIl, editionsOf}
+use Rattle.syndrome.specs.Numbers.{numberWritten, numberCarried, maskCarried, countCarried}
+use Rattle.syndrome.specs.Reading.{asRead, readOf, readNumber}
+use Rattle.syndrome.specs.Writing.{writeOf}
 use Rattle.syndrome.specs.declared.answer.Read.{Read}
 use Rattle.syndrome.specs.declared.answer.Written.{Written}
 use Rattle.syndrome.specs.declared.answer.Carried.{Carried}
 
--- the very record exactly when the reading edition has it, and otherwise 6, with the editions that have it and their number
-abbrev pub readBack : ℕ → Record → Read
-readBack reader r =
-    cond (isEdition reader)
-    (cond (has reader r) (Read.Taken r) (Read.Refused (OtherEditions (editionsOf r) (ones (editionsOf r)))))
-    (Read.Refused UnknownEdition)
+-- DEMAND 2: a word that is taken comes back with the same 64 bits
+abbrev pub rewritten : Esr → Read → Written
+rewritten esr (Read.Taken r) = Written.Word esr
+rewritten esr (Read.Refused refusal) = Written.Refused refusal
 
+pub record Rewriting (e : ℕ) (esr : Esr) (a : Written) : Type 0 where
+  pub answer : a ≡ rewritten esr (readOf e esr)
+  pub number : numberWritten a ≡ readNumber e esr
+
+-- DEMAND 3: what the writer's edition puts out, the reader's gives back as that very record exactly when it has it, and otherwise refusal 6
 abbrev pub carriedFrom : ℕ → Record → Written → Carried
-carriedFrom reader r (Written.Word esr) = Carried.Read (readBack reader r)
+carriedFrom reader r (Written.Word esr) = Carried.Read (asRead (Form.readBack editions has reader r))
 carriedFrom reader r (Written.Refused refusal) = Carried.Unwritten refusal
 
 unfoldable pub carriedOf : ℕ → ℕ → Record → Carried
 carriedOf writer reader r = carriedFrom reader r (writeOf writer r)
+
+-- the number: the writer's tests, then the reader's
+abbrev pub carryNumber : ℕ → ℕ → Record → ℕ
+carryNumber writer reader r =
+    decide
+    (needs (isEdition writer) 1
+    ∷ needs (headOf r .own) 5
+    ∷ needs (recordIl r) 4
+    ∷ needs (someHas editions (λ x. has x r)) 5
+    ∷ needs (has writer r) 6
+    ∷ needs (isEdition reader) 1
+    ∷ needs (has reader r) 6
+    ∷ [])
+    0
+
+pub record Carrying (writer reader : ℕ) (r : Record) (c : Carried) : Type 0 where
+  pub answer : c ≡ carriedOf writer reader r
+  pub number : numberCarried c ≡ carryNumber writer reader r
+  pub mask : maskCarried c ≡ sixOnly (numberCarried c) (editionsOf r)
+  pub count : countCarried c ≡ sixOnly (numberCarried c) (countBelow editions (λ x. has x r))

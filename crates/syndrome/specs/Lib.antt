@@ -1,9 +1,6 @@
-pub mod Class
-pub mod Fields
-pub mod Length
-pub mod Rule
-pub mod Code
-pub mod Has
-pub mod Split
-pub mod Answer
+pub mod Numbers
+pub mod Tests
+pub mod Reading
+pub mod Writing
 pub mod Carry
+pub mod Inner

@@ -1,7 +1,7 @@
 // What reading a word and writing a record answer.
-use super::record::Esr;
-use super::record::Record;
 use edition::Refusal;
+use record::Esr;
+use record::Record;
 
 pub enum Read {
     Taken(Record),

@@ -4,62 +4,47 @@
 // edition only asks whether its bit stands in the mask.
 ghost use mathlib.Core.Path.{_≡_};
 ghost use Rattle.edition.specs.Mask.{maskOf};
-ghost use Rattle.syndrome.specs.Answer.{makes, readRecord, readOf, writeOf};
-ghost use Rattle.syndrome.specs.Carry.{carriedOf};
+ghost use Rattle.syndrome.specs.Inner.{makes};
+ghost use Rattle.syndrome.specs.Tests.{wordIl};
+ghost use Rattle.syndrome.specs.Reading.{Reading};
+ghost use Rattle.syndrome.specs.Writing.{Writing};
+ghost use Rattle.syndrome.specs.Carry.{Carrying, Rewriting};
 
 mod answer;
-mod class;
-mod code;
-mod join;
-mod record;
-mod rule;
-mod split;
 
 pub use answer::Carried;
 pub use answer::Read;
 pub use answer::Written;
 use edition::Refusal;
 use edition::Verdict;
-pub use record::Call;
-pub use record::DataAbort;
-pub use record::Esr;
-use record::Found;
-pub use record::InstructionAbort;
-pub use record::Ldc;
-pub use record::Mcr;
-pub use record::Mcrr;
-pub use record::Plain;
-pub use record::Record;
-pub use record::Simd;
-pub use record::Smc;
-pub use record::Wfx;
+use record::Esr;
+use record::Record;
 
 // The editions that have a record which is to make the word: none where some bit of the word is not the record's.
 fn word_editions(r: Record, word: u64) -> u32
     ensures { λ m. ⌜ m ≡ maskOf (λ e. makes e r word) ⌝ }
 {
-    if join::joined(r) == word {
-        code::editions(r)
+    if record::joined(r) == word {
+        rule::editions(r)
     } else {
         0
     }
 }
 
-fn read_record(edition: u32, word: u64, r: Record) -> Read
-    ensures { λ a. ⌜ a ≡ readRecord edition word r ⌝ }
+// Whether IL is 1 where the word's class and ISV ask for it.
+fn word_il(word: u64) -> bool
+    ensures { λ yes. ⌜ yes ≡ wordIl word ⌝ }
 {
-    if !class::length(r) {
-        return Read::Refused(Refusal::ShortInstruction);
-    }
-    match edition::judge(edition, word_editions(r, word)) {
-        Verdict::Taken => Read::Taken(r),
-        Verdict::Refused(refusal) => Read::Refused(refusal),
-    }
+    rule::il_rule(
+        bits::field32(word, 31, 26),
+        bits::bit(word, 24),
+        bits::bit(word, 25),
+    )
 }
 
 // Reads a syndrome word in an edition.
 pub fn read(edition: u32, esr: Esr) -> Read
-    ensures { λ a. ⌜ a ≡ readOf edition (esr .0) ⌝ }
+    ensures { λ a. ⌜ Reading edition esr a ⌝ }
 {
     let word = esr.0;
     if !edition::known(edition) {
@@ -68,34 +53,53 @@ pub fn read(edition: u32, esr: Esr) -> Read
     if bits::field(word, 63, 32) != 0 {
         return Read::Refused(Refusal::UpperHalf);
     }
-    match split::found_in(word) {
-        Found::Record(r) => read_record(edition, word, r),
-        Found::UnknownClass => Read::Refused(Refusal::UnknownClass),
+    if !record::is_class(bits::field32(word, 31, 26)) {
+        return Read::Refused(Refusal::UnknownClass);
+    }
+    if !word_il(word) {
+        return Read::Refused(Refusal::ShortInstruction);
+    }
+    let r = record::record_at(word);
+    match edition::judge(edition, word_editions(r, word)) {
+        Verdict::Taken => Read::Taken(r),
+        Verdict::Refused(refusal) => Read::Refused(refusal),
     }
 }
 
 // Writes a record in an edition.
 pub fn write(edition: u32, r: Record) -> Written
-    ensures { λ a. ⌜ a ≡ writeOf edition r ⌝ }
+    ensures { λ a. ⌜ Writing edition r a ⌝ }
 {
+    let h = record::head(r);
     if !edition::known(edition) {
         return Written::Refused(Refusal::UnknownEdition);
     }
-    if !class::own(r) {
+    if !h.own {
         return Written::Refused(Refusal::NoEdition);
     }
-    if !class::length(r) {
+    if !rule::il_rule(h.class, h.isv, h.il) {
         return Written::Refused(Refusal::ShortInstruction);
     }
-    match edition::judge(edition, code::editions(r)) {
-        Verdict::Taken => Written::Word(Esr(join::joined(r))),
+    match edition::judge(edition, rule::editions(r)) {
+        Verdict::Taken => Written::Word(Esr(record::joined(r))),
         Verdict::Refused(refusal) => Written::Refused(refusal),
     }
 }
 
-// Writes a record in one edition and reads the word in another: the very record where the reader's edition has it, else refusal 6.
+// Demand 2 beside running code: reads a word and writes its record again. A word that is taken comes back with the same 64 bits.
+pub fn rewrite(edition: u32, esr: Esr) -> Written
+    ensures { λ a. ⌜ Rewriting edition esr a ⌝ }
+{
+    match read(edition, esr) {
+        Read::Taken(r) => write(edition, r),
+        Read::Refused(refusal) => Written::Refused(refusal),
+    }
+}
+
+// Demand 3 beside running code: writes a record in one edition and reads the word in another. The very record comes back where the reader's edition has
+// it, else refusal 6.
 pub fn carry(writer: u32, reader: u32, r: Record) -> Carried
-    ensures { λ c. ⌜ c ≡ carriedOf writer reader r ⌝ }
+    ensures { λ c. ⌜ Carrying writer reader r c ⌝ }
 {
     match write(writer, r) {
         Written::Word(esr) => Carried::Read(read(reader, esr)),

@@ -1,10 +1,11 @@
--- `syndrome::carry` meets its contract: the word that was written is read back, by demand 3.
+-- `syndrome::carry` meets its contract: what the writer put out, the reader gives back as demand 3 says.
 -- Assumes nothing.
 use borrow.Author.Needs.{needs}
 use mathlib.Core.Path.{_∙_, sym, ap}
 use Rattle.syndrome.specs.Carry.{carriedFrom, carriedOf}
 use Rattle.syndrome.specs.declared.answer.Carried.{Carried}
 use Rattle.syndrome.proofs.Demand3.{read-back}
+use Rattle.syndrome.proofs.Carries.{carries}
 use Rattle.syndrome.proofs.carry.Statement.{statement}
 use Rattle.syndrome.proofs.carry.Tie as tie
 
@@ -25,15 +26,17 @@ unfolding carriedOf
 returns c =
     let a = c .before .before .before .before .before .args in
     let told = c .before .before .esr .given in
-    let put = sym (c .before .before .before .before .write .ensures) ∙ told .1 in
-    ap Carried.Read (c .read .ensures ∙ read-back (a .writer) (a .reader) (told .0 .0 .0) (a .r) put)
-    ∙ sym (ap (carriedFrom (a .reader) (a .r)) put)
+    let put = sym (c .before .before .before .before .write .ensures .answer) ∙ told .1 in
+    carries (a .writer) (a .reader) (a .r)
+    (ap Carried.Read (c .read .ensures .answer ∙ read-back (a .writer) (a .reader) (told .0 .0) (a .r) put)
+    ∙ sym (ap (carriedFrom (a .reader) (a .r)) put))
 
 returns-2 : tie.Need-returns-2
 unfolding carriedOf
 returns-2 c =
     let a = c .before .before .before .before .args in
-    sym (ap (carriedFrom (a .reader) (a .r)) (sym (c .before .before .before .write .ensures) ∙ c .before .refusal .given .1))
+    carries (a .writer) (a .reader) (a .r)
+    (sym (ap (carriedFrom (a .reader) (a .r)) (sym (c .before .before .before .write .ensures .answer) ∙ c .before .refusal .given .1)))
 
 pub carry-spec : {M : Type 1} → statement M
 carry-spec =

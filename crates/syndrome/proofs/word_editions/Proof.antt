@@ -4,8 +4,8 @@ use borrow.Author.Needs.{needs}
 use mathlib.Core.Path.{_∙_, sym, ap}
 use mathlib.Core.Bool.{Bool, cond}
 use borrow.Author.Tests.{eq-eqb, ne-eqb}
-use Rattle.syndrome.specs.Has.{editionsOf}
-use Rattle.syndrome.proofs.Records.{makes-mask}
+use Rattle.rule.specs.Has.{editionsOf}
+use Rattle.syndrome.proofs.Steps.{makes-mask}
 use Rattle.syndrome.proofs.word_editions.Statement.{statement}
 use Rattle.syndrome.proofs.word_editions.Tie as tie
 

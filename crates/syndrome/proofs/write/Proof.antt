@@ -1,57 +1,77 @@
--- `syndrome::write` meets its contract: the tests that led to each answer are those of `writeOf`; a record that is taken is put together into its word.
+-- `syndrome::write` meets its contract: the tests that led to each answer are those of `writeOf`, in its order.
 -- Assumes nothing.
 use borrow.Author.Needs.{needs}
 use mathlib.Core.Path.{_≡_, _∙_, sym, ap}
-use mathlib.Core.Bool.{true}
+use mathlib.Core.Bool.{Bool, true}
 use Prim.Native.Nat.{ℕ}
-use borrow.Author.Tests.{ltb-true, not-true, not-false}
-use Rattle.edition.specs.Feature.{editions, isEdition}
+use borrow.Author.Tests.{not-true, not-false}
+use Rattle.bits.specs.Inner.{joinedFrom}
+use Rattle.edition.specs.Feature.{isEdition}
 use Rattle.edition.specs.Judge.{judgeOf}
 use Rattle.edition.specs.declared.Verdict.{Verdict}
-use Rattle.edition.proofs.Judgement.{taken-has}
-use Rattle.syndrome.specs.Class.{ownClass}
-use Rattle.syndrome.specs.Length.{ilRule}
-use Rattle.syndrome.specs.Has.{has, editionsOf}
-use Rattle.syndrome.specs.Answer.{writeVerdict, writeOf}
-use Rattle.syndrome.specs.declared.record.Record.{Record}
+use Rattle.record.specs.Class.{headOf}
+use Rattle.record.specs.Fields.{fieldsOf, recordWord}
+use Rattle.record.specs.declared.kinds.Head.{Head}
+use Rattle.record.specs.declared.kinds.Record.{Record}
+use Rattle.rule.specs.Il.{ilRule}
+use Rattle.rule.specs.Has.{recordIl, editionsOf}
+use Rattle.syndrome.specs.Writing.{writeOf}
 use Rattle.syndrome.specs.declared.answer.Written.{Written}
-use Rattle.syndrome.proofs.Records.{joined-record}
-use Rattle.syndrome.proofs.Steps.{write-unknown, write-class, write-short, write-judged}
+use Rattle.syndrome.proofs.Steps.{writeVerdict, write-unknown, write-class, write-short, write-judged, joined-taken}
+use Rattle.syndrome.proofs.Promises.{writes}
 use Rattle.syndrome.proofs.write.Statement.{statement}
 use Rattle.syndrome.proofs.write.Tie as tie
 
-judged : (e : ℕ) (r : Record) {mask : ℕ} {verdict known : Verdict} → isEdition e ≡ true → ownClass r ≡ true → ilRule r ≡ true
-    → mask ≡ editionsOf r → verdict ≡ judgeOf e mask → verdict ≡ known → writeVerdict r known ≡ writeOf e r
-judged e r i o l m j k = ap (writeVerdict r) (sym k ∙ j ∙ ap (judgeOf e) m) ∙ sym (write-judged e r i o l)
+-- a record's head, as the code has it
+own-class : {h : Head} (r : Record) {b : Bool} → h ≡ headOf r → h .own ≡ b → headOf r .own ≡ b
+own-class r same o = sym (ap (λ (x : Head). x .own) same) ∙ o
+
+own-il : {h : Head} (r : Record) {long b : Bool} → h ≡ headOf r → long ≡ ilRule (h .class) (h .isv) (h .il) → long ≡ b → recordIl r ≡ b
+own-il r same l b = sym (l ∙ ap (λ (x : Head). ilRule (x .class) (x .isv) (x .il)) same) ∙ b
+
+module _ (e : ℕ) (r : Record) (k : isEdition e ≡ true) (o : headOf r .own ≡ true) (l : recordIl r ≡ true) where
+  -- what the code makes of a verdict that it came to
+  judged : {m : ℕ} {came verdict : Verdict} → m ≡ editionsOf r → came ≡ judgeOf e m → came ≡ verdict → writeVerdict (recordWord r) verdict ≡ writeOf e r
+  judged mask judge same = sym (write-judged e r k o l ∙ ap (writeVerdict (recordWord r)) (ap (judgeOf e) (sym mask) ∙ sym judge ∙ same))
+
+  joined : {w m : ℕ} {came : Verdict} → w ≡ joinedFrom 0 (fieldsOf r) → m ≡ editionsOf r → came ≡ judgeOf e m → came ≡ Verdict.Taken
+      → Written.Word (record { 0 = w }) ≡ writeOf e r
+  joined made mask judge same =
+      ap (λ (w : ℕ). Written.Word (record { 0 = w })) (made ∙ joined-taken e r k (ap (judgeOf e) (sym mask) ∙ sym judge ∙ same)) ∙ judged mask judge same
+
+head-requires : tie.Need-head-requires
+head-requires c κs = search needs
 
 known-requires : tie.Need-known-requires
 known-requires c κs = search needs
 
 returns : tie.Need-returns
 returns c =
-    let a = c .before .before .args in
-    sym (write-unknown (a .edition) (a .r) (sym (c .before .known .ensures) ∙ not-true _ (c .if1 .taken)))
-
-own-requires : tie.Need-own-requires
-own-requires c κs = search needs
+    let a = c .before .before .before .args in
+    writes (a .edition) (a .r) (sym (write-unknown (a .edition) (a .r) (sym (c .before .known .ensures) ∙ not-true _ (c .if1 .taken))))
 
 returns-2 : tie.Need-returns-2
 returns-2 c =
-    let e = c .before .before in
-    let a = e .before .before .args in
-    sym (write-class (a .edition) (a .r) (sym (e .before .known .ensures) ∙ not-false _ (e .if1 .left))
-    (sym (c .before .own .ensures) ∙ not-true _ (c .if2 .taken)))
+    let known = c .before .before in
+    let head = known .before .before in
+    let a = head .before .args in
+    writes (a .edition) (a .r)
+    (sym (write-class (a .edition) (a .r) (sym (known .before .known .ensures) ∙ not-false _ (known .if1 .left))
+    (own-class (a .r) (head .head .ensures) (not-true _ (c .if2 .taken)))))
 
-length-requires : tie.Need-length-requires
-length-requires c κs = search needs
+il-rule-requires : tie.Need-il-rule-requires
+il-rule-requires c κs = search needs
 
 returns-3 : tie.Need-returns-3
 returns-3 c =
-    let o = c .before .before in
-    let e = o .before .before in
-    let a = e .before .before .args in
-    sym (write-short (a .edition) (a .r) (sym (e .before .known .ensures) ∙ not-false _ (e .if1 .left))
-    (sym (o .before .own .ensures) ∙ not-false _ (o .if2 .left)) (sym (c .before .length .ensures) ∙ not-true _ (c .if3 .taken)))
+    let own = c .before .before in
+    let known = own .before .before in
+    let head = known .before .before in
+    let a = head .before .args in
+    writes (a .edition) (a .r)
+    (sym (write-short (a .edition) (a .r) (sym (known .before .known .ensures) ∙ not-false _ (known .if1 .left))
+    (own-class (a .r) (head .head .ensures) (not-false _ (own .if2 .left)))
+    (own-il (a .r) (head .head .ensures) (c .before .il-rule .ensures) (not-true _ (c .if3 .taken)))))
 
 editions-requires : tie.Need-editions-requires
 editions-requires c κs = search needs
@@ -70,40 +90,41 @@ enum-known-refusal c = search needs
 
 returns-4 : tie.Need-returns-4
 returns-4 c =
-    let j = c .before .before .before in
-    let l = j .before .before in
-    let o = l .before .before in
-    let e = o .before .before in
-    let a = e .before .before .args in
-    let known : isEdition (a .edition) ≡ true = sym (e .before .known .ensures) ∙ not-false _ (e .if1 .left) in
-    let told = c .before .enum-told .given .1 in
-    let verdict = sym (j .judge .ensures ∙ ap (judgeOf (a .edition)) (j .before .editions .ensures)) ∙ told in
-    ap (λ (w : ℕ). Written.Word (record { 0 = w }))
-    (c .joined .ensures
-    ∙ joined-record (a .edition) (a .r) (taken-has (λ e. has e (a .r)) (a .edition) (ltb-true (a .edition) editions known) verdict))
-    ∙ judged (a .edition) (a .r) known (sym (o .before .own .ensures) ∙ not-false _ (o .if2 .left))
-    (sym (l .before .length .ensures) ∙ not-false _ (l .if3 .left)) (j .before .editions .ensures) (j .judge .ensures) told
+    let at = c .before .before .before in
+    let long = at .before .before in
+    let own = long .before .before in
+    let known = own .before .before in
+    let head = known .before .before in
+    let a = head .before .args in
+    writes (a .edition) (a .r)
+    (joined (a .edition) (a .r) (sym (known .before .known .ensures) ∙ not-false _ (known .if1 .left))
+    (own-class (a .r) (head .head .ensures) (not-false _ (own .if2 .left)))
+    (own-il (a .r) (head .head .ensures) (long .before .il-rule .ensures) (not-false _ (long .if3 .left))) (c .joined .ensures) (at .before .editions .ensures)
+    (at .judge .ensures) (c .before .enum-told .given .1))
 
 returns-5 : tie.Need-returns-5
 returns-5 c =
-    let j = c .before .before .before in
-    let l = j .before .before in
-    let o = l .before .before in
-    let e = o .before .before in
-    let a = e .before .before .args in
-    judged (a .edition) (a .r) (sym (e .before .known .ensures) ∙ not-false _ (e .if1 .left))
-    (sym (o .before .own .ensures) ∙ not-false _ (o .if2 .left)) (sym (l .before .length .ensures) ∙ not-false _ (l .if3 .left))
-    (j .before .editions .ensures) (j .judge .ensures) (c .before .refusal .given .1)
+    let at = c .before .before .before in
+    let long = at .before .before in
+    let own = long .before .before in
+    let known = own .before .before in
+    let head = known .before .before in
+    let a = head .before .args in
+    writes (a .edition) (a .r)
+    (judged (a .edition) (a .r) (sym (known .before .known .ensures) ∙ not-false _ (known .if1 .left))
+    (own-class (a .r) (head .head .ensures) (not-false _ (own .if2 .left)))
+    (own-il (a .r) (head .head .ensures) (long .before .il-rule .ensures) (not-false _ (long .if3 .left))) (at .before .editions .ensures) (at .judge .ensures)
+    (c .before .refusal .given .1))
 
 pub write-spec : {M : Type 1} → statement M
 write-spec =
     tie.close
     (tie.spec
+    head-requires
     known-requires
     returns
-    own-requires
     returns-2
-    length-requires
+    il-rule-requires
     returns-3
     editions-requires
     judge-requires

@@ -1,0 +1,6 @@
+pub mod Calls
+pub mod Verdicts
+pub mod Forms
+pub mod Demand2
+pub mod Demand3
+pub mod Numbers

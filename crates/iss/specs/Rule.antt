@@ -1,0 +1,40 @@
+-- Rules of single fields of the ISS (01, 'Layout of the word'), which ask nothing of the class or the edition.
+use Prim.Native.Nat.{ℕ}
+use mathlib.Core.Bool.{Bool, not, _&&_, _||_}
+use lib.Dec.{leb, ltb, eqb}
+
+abbrev pub implies : Bool → Bool → Bool
+implies a b = not a || b
+
+abbrev pub between : ℕ → ℕ → ℕ → Bool
+between first last n = leb first n && leb n last
+
+-- CV 1 with COND 1111 is refused
+abbrev pub conditionRule : Bool → ℕ → Bool
+conditionRule cv cond = not (cv && eqb cond 0b1111)
+
+-- LDC and STC: AM 101 and 111 are refused; 100 and 110 only with direction 1
+abbrev pub addressingRule : ℕ → Bool → Bool
+addressingRule am direction =
+    not (eqb am 0b101) && not (eqb am 0b111) && implies (eqb am 0b100 || eqb am 0b110) direction
+
+-- SMC: when CCKNOWNPASS is 0, CV and COND must be 0
+abbrev pub passedRule : Bool → Bool → ℕ → Bool
+passedRule ccknownpass cv cond = ccknownpass || not cv && eqb cond 0
+
+-- codes 0x00..0x0F, 0x29, 0x2B: address size, translation, access flag and permission faults
+abbrev pub mmuFault : ℕ → Bool
+mmuFault code = leb code 0x0F || eqb code 0x29 || eqb code 0x2B
+
+-- both aborts: FnV only with code 0x10, EA only with 0x10..0x1F, S1PTW only with an MMU fault
+abbrev pub abortRule : Bool → Bool → Bool → ℕ → Bool
+abortRule fnv ea s1ptw code =
+    implies fnv (eqb code 0x10) && implies ea (between 0x10 0x1F code) && implies s1ptw (mmuFault code)
+
+-- SSE 1 needs SAS below 2 and WnR 0
+abbrev pub extensionRule : Bool → ℕ → Bool → Bool
+extensionRule sse sas wnr = implies sse (ltb sas 2 && not wnr)
+
+-- CM 1 needs WnR 1
+abbrev pub maintenanceRule : Bool → Bool → Bool
+maintenanceRule cm wnr = implies cm wnr

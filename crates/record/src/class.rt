@@ -1,0 +1,85 @@
+// Which classes there are, and which each kind of record has.
+ghost use mathlib.Core.Path.{_≡_};
+ghost use Rattle.record.specs.Class.{isClass, plainClass, mcrClass, mcrrClass, callClass, withoutIsv, headOf};
+use super::kinds::Head;
+use super::kinds::Record;
+
+fn plain_class(class: u32) -> bool
+    ensures { λ r. ⌜ r ≡ plainClass class ⌝ }
+{
+    (class == 0x00) | (class == 0x0E) | (class == 0x22)
+}
+
+fn mcr_class(class: u32) -> bool
+    ensures { λ r. ⌜ r ≡ mcrClass class ⌝ }
+{
+    (class == 0x03) | (class == 0x05) | (class == 0x08)
+}
+
+fn mcrr_class(class: u32) -> bool
+    ensures { λ r. ⌜ r ≡ mcrrClass class ⌝ }
+{
+    (class == 0x04) | (class == 0x0C)
+}
+
+fn call_class(class: u32) -> bool
+    ensures { λ r. ⌜ r ≡ callClass class ⌝ }
+{
+    (class == 0x11) | (class == 0x12)
+}
+
+// Whether the class is in the build.
+pub fn is_class(class: u32) -> bool
+    ensures { λ r. ⌜ r ≡ isClass class ⌝ }
+{
+    (class == 0x00)
+        | (class == 0x01)
+        | (class == 0x03)
+        | (class == 0x04)
+        | (class == 0x05)
+        | (class == 0x06)
+        | (class == 0x07)
+        | (class == 0x08)
+        | (class == 0x0C)
+        | (class == 0x0E)
+        | (class == 0x11)
+        | (class == 0x12)
+        | (class == 0x13)
+        | (class == 0x20)
+        | (class == 0x22)
+        | (class == 0x24)
+}
+
+fn without_isv(class: u32, own: bool, il: bool) -> Head
+    ensures { λ h. ⌜ h ≡ withoutIsv class own il ⌝ }
+{
+    Head {
+        class,
+        own,
+        il,
+        isv: false,
+    }
+}
+
+// A record's class, whether its kind has that class, IL and ISV.
+pub fn head(r: Record) -> Head
+    ensures { λ h. ⌜ h ≡ headOf r ⌝ }
+{
+    match r {
+        Record::Plain(x) => without_isv(x.class, plain_class(x.class), x.il),
+        Record::Wfx(x) => without_isv(0x01, true, x.il),
+        Record::Mcr(x) => without_isv(x.class, mcr_class(x.class), x.il),
+        Record::Mcrr(x) => without_isv(x.class, mcrr_class(x.class), x.il),
+        Record::Ldc(x) => without_isv(0x06, true, x.il),
+        Record::Simd(x) => without_isv(0x07, true, x.il),
+        Record::Call(x) => without_isv(x.class, call_class(x.class), x.il),
+        Record::Smc(x) => without_isv(0x13, true, x.il),
+        Record::InstructionAbort(x) => without_isv(0x20, true, x.il),
+        Record::DataAbort(x) => Head {
+            class: 0x24,
+            own: true,
+            il: x.il,
+            isv: x.isv,
+        },
+    }
+}

@@ -1,0 +1,137 @@
+// The records: what a syndrome word says, by kind of exception. A record can hold what no word has, as a register number
+// of 40 or IL 0 at an abort, so that the writer can refuse it.
+
+// A syndrome word: ESR_EL2.
+pub struct Esr(pub u64);
+
+// Classes 0x00, 0x0E and 0x22: the class says all.
+pub struct Plain {
+    pub class: u32,
+    pub il: bool,
+}
+
+// Class 0x01: a trapped WFI or WFE.
+pub struct Wfx {
+    pub il: bool,
+    pub cv: bool,
+    pub cond: u32,
+    pub ti: bool,
+}
+
+// Classes 0x03, 0x05 and 0x08: a trapped MCR, MRC or VMRS.
+pub struct Mcr {
+    pub class: u32,
+    pub il: bool,
+    pub cv: bool,
+    pub cond: u32,
+    pub opc2: u32,
+    pub opc1: u32,
+    pub crn: u32,
+    pub rt: u32,
+    pub crm: u32,
+    pub direction: bool,
+}
+
+// Classes 0x04 and 0x0C: a trapped MCRR or MRRC.
+pub struct Mcrr {
+    pub class: u32,
+    pub il: bool,
+    pub cv: bool,
+    pub cond: u32,
+    pub opc1: u32,
+    pub rt2: u32,
+    pub rt: u32,
+    pub crm: u32,
+    pub direction: bool,
+}
+
+// Class 0x06: a trapped LDC or STC.
+pub struct Ldc {
+    pub il: bool,
+    pub cv: bool,
+    pub cond: u32,
+    pub imm8: u32,
+    pub rn: u32,
+    pub offset: bool,
+    pub am: u32,
+    pub direction: bool,
+}
+
+// Class 0x07: a trapped SIMD or floating point instruction.
+pub struct Simd {
+    pub il: bool,
+    pub cv: bool,
+    pub cond: u32,
+}
+
+// Classes 0x11 and 0x12: an SVC or HVC.
+pub struct Call {
+    pub class: u32,
+    pub il: bool,
+    pub imm16: u32,
+}
+
+// Class 0x13: a trapped SMC.
+pub struct Smc {
+    pub il: bool,
+    pub cv: bool,
+    pub cond: u32,
+    pub ccknownpass: bool,
+}
+
+// Class 0x20.
+pub struct InstructionAbort {
+    pub il: bool,
+    pub set: u32,
+    pub fnv: bool,
+    pub ea: bool,
+    pub s1ptw: bool,
+    pub code: u32,
+}
+
+// Class 0x24.
+pub struct DataAbort {
+    pub il: bool,
+    pub isv: bool,
+    pub sas: u32,
+    pub sse: bool,
+    pub srt: u32,
+    pub sf: bool,
+    pub ar: bool,
+    pub set: u32,
+    pub fnv: bool,
+    pub ea: bool,
+    pub cm: bool,
+    pub s1ptw: bool,
+    pub wnr: bool,
+    pub code: u32,
+}
+
+// A kind of record with several classes holds the class; one with a single class holds none.
+pub enum Record {
+    Plain(Plain),
+    Wfx(Wfx),
+    Mcr(Mcr),
+    Mcrr(Mcrr),
+    Ldc(Ldc),
+    Simd(Simd),
+    Call(Call),
+    Smc(Smc),
+    InstructionAbort(InstructionAbort),
+    DataAbort(DataAbort),
+}
+
+// What is asked of every record before its fields: its class, whether its kind has that class, IL, and ISV, which a data abort alone has.
+pub struct Head {
+    pub class: u32,
+    pub own: bool,
+    pub il: bool,
+    pub isv: bool,
+}
+
+// What the address registers tell: nothing; FAR, the virtual address; or what an abort's FnV, S1PTW and fault code say of FAR and HPFAR.
+pub enum Addresses {
+    None,
+    Virtual,
+    Abort { fnv: bool, s1ptw: bool, code: u32 },
+}

@@ -1,0 +1,4 @@
+pub mod Masks
+pub mod Lengths
+pub mod Having
+pub mod NotEmpty

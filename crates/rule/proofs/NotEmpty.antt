@@ -1,0 +1,89 @@
+-- What an edition has is not nothing: every class of the build has a record that every edition has.
+-- Assumes nothing.
+use mathlib.Core.Path.{_≡_, refl, subst, sym, ap}
+use mathlib.Core.Bool.{Bool, true, false, _&&_}
+use mathlib.Core.List.{List, [], _∷_}
+use Prim.Native.Nat.{ℕ, _<_}
+use lib.Dec.{T, eqb, eqb→eq}
+use Rattle.bits.specs.Field.{fieldOf}
+use Rattle.bits.proofs.Booleans.{both-left, both-right}
+use Rattle.edition.specs.Feature.{editions}
+use Rattle.edition.specs.Mask.{maskOf}
+use Rattle.edition.proofs.Masks.{mask-everywhere}
+use Rattle.record.specs.Class.{classes}
+use Rattle.record.specs.Fields.{recordWord}
+use Rattle.record.specs.declared.kinds.Record.{Record}
+use Rattle.rule.specs.Has.{lawful, has, editionsOf}
+
+-- the classes of some records: EC of their words
+abbrev pub classesOf : List Record → List ℕ
+classesOf [] = []
+classesOf (r ∷ rs) = fieldOf (recordWord r) 31 26 ∷ classesOf rs
+
+-- every edition has each of them
+abbrev pub AllHave : List Record → Type 0
+AllHave [] = Unit {0}
+AllHave (r ∷ rs) = ((e : ℕ) → e < editions → has e r ≡ true) × AllHave rs
+
+-- the mask of each is that of all editions
+everywhere : List Record → Bool
+everywhere [] = true
+everywhere (r ∷ rs) = eqb (editionsOf r) (maskOf (λ e. true)) && everywhere rs
+
+all-have : (rs : List Record) → T (everywhere rs) → AllHave rs
+unfolding everywhere maskOf
+all-have [] t = tt
+all-have (r ∷ rs) t = (
+  mask-everywhere editions (λ e. has e r)
+      (eqb→eq (editionsOf r) (maskOf (λ e. true)) (both-left (eqb (editionsOf r) (maskOf (λ e. true))) (everywhere rs) t)),
+  all-have rs (both-right (eqb (editionsOf r) (maskOf (λ e. true))) (everywhere rs) t),
+)
+
+-- an MRC, an MRRC, an SVC or HVC, of a class
+mrc : ℕ → Record
+mrc c =
+    Record.Mcr
+    record { class = c; il = true; cv = true; cond = 14; opc2 = 0; opc1 = 0; crn = 0; rt = 0; crm = 0; direction = true }
+
+mrrc : ℕ → Record
+mrrc c = Record.Mcrr record { class = c; il = true; cv = true; cond = 14; opc1 = 0; rt2 = 0; rt = 0; crm = 0; direction = true }
+
+pub samples : List Record
+unfolding mrc mrrc
+samples =
+    Record.Plain record { class = 0x00; il = true } ∷ Record.Wfx record { il = true; cv = true; cond = 14; ti = false } ∷ mrc 0x03
+    ∷ mrrc 0x04 ∷ mrc 0x05
+    ∷ Record.Ldc record { il = true; cv = true; cond = 14; imm8 = 0; rn = 0; offset = true; am = 0; direction = true }
+    ∷ Record.Simd record { il = true; cv = true; cond = 14 } ∷ mrc 0x08 ∷ mrrc 0x0C ∷ Record.Plain record { class = 0x0E; il = true }
+    ∷ Record.Call record { class = 0x11; il = true; imm16 = 0 } ∷ Record.Call record { class = 0x12; il = true; imm16 = 1 }
+    ∷ Record.Smc record { il = true; cv = false; cond = 0; ccknownpass = false }
+    ∷ Record.InstructionAbort record { il = true; set = 0; fnv = false; ea = false; s1ptw = false; code = 5 }
+    ∷ Record.Plain record { class = 0x22; il = true }
+    ∷ Record.DataAbort
+    record {
+      il = true;
+      isv = true;
+      sas = 2;
+      sse = false;
+      srt = 3;
+      sf = false;
+      ar = false;
+      set = 0;
+      fnv = false;
+      ea = false;
+      cm = false;
+      s1ptw = false;
+      wnr = true;
+      code = 5;
+    }
+    ∷ []
+
+-- one for each class of the build
+pub every-class : classesOf samples ≡ classes
+unfolding samples
+every-class = refl
+
+-- and in every edition
+pub every-edition : AllHave samples
+unfolding samples lawful has maskOf everywhere
+every-edition = all-have samples tt

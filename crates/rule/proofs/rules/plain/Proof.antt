@@ -1,0 +1,13 @@
+-- `rule::rules::plain` meets its contract: each number fits its bits.
+-- Assumes nothing.
+use mathlib.Core.Bool.{true}
+use Rattle.bits.proofs.Fields.{fitting-after}
+use Rattle.record.specs.Fields.{plainFields}
+use Rattle.rule.proofs.rules.plain.Statement.{statement}
+use Rattle.rule.proofs.rules.plain.Tie as tie
+
+returns : tie.Need-returns
+returns c = fitting-after true (plainFields (c .before .args .r))
+
+pub plain-spec : {M : Type 1} → statement M
+plain-spec = tie.close (tie.spec returns)

@@ -1,0 +1,18 @@
+-- `rule::rules::wfx` meets its contract: each number fits its bits, and each call's answer is its rule.
+-- Assumes nothing.
+use borrow.Author.Needs.{needs}
+use mathlib.Core.Path.{ap₂}
+use mathlib.Core.Bool.{true, _&&_}
+use Rattle.bits.proofs.Fields.{fitting-after}
+use Rattle.record.specs.Fields.{wfxFields}
+use Rattle.rule.proofs.rules.wfx.Statement.{statement}
+use Rattle.rule.proofs.rules.wfx.Tie as tie
+
+condition-rule-requires : tie.Need-condition-rule-requires
+condition-rule-requires c κs = search needs
+
+returns : tie.Need-returns
+returns c = ap₂ _&&_ (fitting-after true (wfxFields (c .before .before .args .r))) (c .condition-rule .ensures)
+
+pub wfx-spec : {M : Type 1} → statement M
+wfx-spec = tie.close (tie.spec condition-rule-requires returns)

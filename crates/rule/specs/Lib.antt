@@ -1,0 +1,4 @@
+pub mod Il
+pub mod Rule
+pub mod Code
+pub mod Has

@@ -1,0 +1,145 @@
+// The rules that ask nothing of the edition: fields that fit their bits, and what the layout and the abort rules allow.
+ghost use mathlib.Core.Path.{_≡_};
+ghost use mathlib.Core.Bool.{_&&_};
+ghost use Rattle.bits.specs.Layout.{fitting};
+ghost use Rattle.record.specs.Fields.{plainFields, wfxFields, mcrFields, mcrrFields, ldcFields, simdFields, callFields, smcFields, instructionAbortFields, dataAbortFields, fieldsOf};
+ghost use Rattle.iss.specs.Rule.{conditionRule, addressingRule, passedRule, abortRule};
+ghost use Rattle.rule.specs.Rule.{noSyndromeRule, validSyndromeRule, syndromeRule, dataRule, layoutRule};
+use record::Call;
+use record::DataAbort;
+use record::InstructionAbort;
+use record::Ldc;
+use record::Mcr;
+use record::Mcrr;
+use record::Plain;
+use record::Record;
+use record::Simd;
+use record::Smc;
+use record::Wfx;
+
+fn plain(r: Plain) -> bool
+    ensures { λ yes. ⌜ yes ≡ fitting (plainFields r) ⌝ }
+{
+    r.class < 64
+}
+
+fn wfx(r: Wfx) -> bool
+    ensures { λ yes. ⌜ yes ≡ (fitting (wfxFields r) && conditionRule (r .cv) (r .cond)) ⌝ }
+{
+    (r.cond < 16) & iss::condition_rule(r.cv, r.cond)
+}
+
+fn mcr(r: Mcr) -> bool
+    ensures { λ yes. ⌜ yes ≡ (fitting (mcrFields r) && conditionRule (r .cv) (r .cond)) ⌝ }
+{
+    (r.class < 64)
+        & (r.cond < 16)
+        & (r.opc2 < 8)
+        & (r.opc1 < 8)
+        & (r.crn < 16)
+        & (r.rt < 32)
+        & (r.crm < 16)
+        & iss::condition_rule(r.cv, r.cond)
+}
+
+fn mcrr(r: Mcrr) -> bool
+    ensures { λ yes. ⌜ yes ≡ (fitting (mcrrFields r) && conditionRule (r .cv) (r .cond)) ⌝ }
+{
+    (r.class < 64)
+        & (r.cond < 16)
+        & (r.opc1 < 16)
+        & (r.rt2 < 32)
+        & (r.rt < 32)
+        & (r.crm < 16)
+        & iss::condition_rule(r.cv, r.cond)
+}
+
+fn ldc(r: Ldc) -> bool
+    ensures { λ yes. ⌜ yes ≡ (fitting (ldcFields r) && (conditionRule (r .cv) (r .cond) && addressingRule (r .am) (r .direction))) ⌝ }
+{
+    (r.cond < 16)
+        & (r.imm8 < 256)
+        & (r.rn < 32)
+        & (r.am < 8)
+        & (iss::condition_rule(r.cv, r.cond) & iss::addressing_rule(r.am, r.direction))
+}
+
+fn simd(r: Simd) -> bool
+    ensures { λ yes. ⌜ yes ≡ (fitting (simdFields r) && conditionRule (r .cv) (r .cond)) ⌝ }
+{
+    (r.cond < 16) & iss::condition_rule(r.cv, r.cond)
+}
+
+fn call(r: Call) -> bool
+    ensures { λ yes. ⌜ yes ≡ fitting (callFields r) ⌝ }
+{
+    (r.class < 64) & (r.imm16 < 0x1_0000)
+}
+
+fn smc(r: Smc) -> bool
+    ensures { λ yes. ⌜ yes ≡ (fitting (smcFields r) && (conditionRule (r .cv) (r .cond) && passedRule (r .ccknownpass) (r .cv) (r .cond))) ⌝ }
+{
+    (r.cond < 16)
+        & (iss::condition_rule(r.cv, r.cond) & iss::passed_rule(r.ccknownpass, r.cv, r.cond))
+}
+
+fn instruction_abort(r: InstructionAbort) -> bool
+    ensures { λ yes. ⌜ yes ≡ (fitting (instructionAbortFields r) && abortRule (r .fnv) (r .ea) (r .s1ptw) (r .code)) ⌝ }
+{
+    (r.set < 4) & (r.code < 64) & iss::abort_rule(r.fnv, r.ea, r.s1ptw, r.code)
+}
+
+// ISV 0: nothing is told of the instruction.
+fn no_syndrome_rule(r: DataAbort) -> bool
+    ensures { λ yes. ⌜ yes ≡ noSyndromeRule r ⌝ }
+{
+    (r.sas == 0) & !r.sse & (r.srt == 0) & !r.sf & !r.ar
+}
+
+// ISV 1: a load or store of one register that an AArch32 guest can name; 15 and 31 are none of its numbers.
+fn valid_syndrome_rule(r: DataAbort) -> bool
+    ensures { λ yes. ⌜ yes ≡ validSyndromeRule r ⌝ }
+{
+    !r.sf & (r.sas < 3) & !(r.srt == 15) & !(r.srt == 31) & !r.cm & !r.s1ptw
+}
+
+// What ISV 0 or ISV 1 needs.
+fn syndrome_rule(r: DataAbort) -> bool
+    ensures { λ yes. ⌜ yes ≡ syndromeRule r ⌝ }
+{
+    (r.isv | no_syndrome_rule(r)) & (!r.isv | valid_syndrome_rule(r))
+}
+
+fn data_rule(r: DataAbort) -> bool
+    ensures { λ yes. ⌜ yes ≡ dataRule r ⌝ }
+{
+    syndrome_rule(r) & iss::extension_rule(r.sse, r.sas, r.wnr) & iss::maintenance_rule(r.cm, r.wnr)
+}
+
+fn data_abort(r: DataAbort) -> bool
+    ensures { λ yes. ⌜ yes ≡ (fitting (dataAbortFields r) && (abortRule (r .fnv) (r .ea) (r .s1ptw) (r .code) && dataRule r)) ⌝ }
+{
+    (r.sas < 4)
+        & (r.srt < 32)
+        & (r.set < 4)
+        & (r.code < 64)
+        & (iss::abort_rule(r.fnv, r.ea, r.s1ptw, r.code) & data_rule(r))
+}
+
+// Whether a record's fields fit and agree with each other.
+pub fn layout_rule(r: Record) -> bool
+    ensures { λ yes. ⌜ yes ≡ (fitting (fieldsOf r) && layoutRule r) ⌝ }
+{
+    match r {
+        Record::Plain(x) => plain(x),
+        Record::Wfx(x) => wfx(x),
+        Record::Mcr(x) => mcr(x),
+        Record::Mcrr(x) => mcrr(x),
+        Record::Ldc(x) => ldc(x),
+        Record::Simd(x) => simd(x),
+        Record::Call(x) => call(x),
+        Record::Smc(x) => smc(x),
+        Record::InstructionAbort(x) => instruction_abort(x),
+        Record::DataAbort(x) => data_abort(x),
+    }
+}

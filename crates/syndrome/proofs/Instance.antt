@@ -1,0 +1,41 @@
+-- The long form is a form: what `form` asks of it, once for all its laws.
+-- Assumes nothing.
+use mathlib.Core.Path.{_≡_, _∙_, ap}
+use mathlib.Core.Bool.{true}
+use Prim.Native.Nat.{ℕ, _%_, _^_}
+use native.Mathlib.Nat.{div-eq-of-lt}
+use native.Mathlib.Omega.{arith}
+use borrow.Author.Tests.{eq-eqb}
+use Rattle.bits.specs.Decide.{AllPass}
+use Rattle.edition.specs.Feature.{editions}
+use Rattle.form.proofs.Forms.{Sound}
+use Rattle.record.specs.Fields.{recordWord}
+use Rattle.record.specs.Split.{recordAt}
+use Rattle.record.specs.declared.kinds.Record.{Record}
+use Rattle.record.proofs.RoundTrip.{record-back, word-fits, word-class, head-test}
+use Rattle.rule.specs.Il.{ilRule}
+use Rattle.rule.specs.Has.{has}
+use Rattle.rule.proofs.Lengths.{ignores-isv}
+use Rattle.rule.proofs.Having.{has-edition, has-own, has-il, has-fits}
+use Rattle.syndrome.specs.Tests.{upperClear, wordIl, readTests, writeTests}
+
+module _ (e : ℕ) (r : Record) (h : has e r ≡ true) where
+  upper : upperClear (recordWord r) ≡ true
+  upper = eq-eqb _ _ (ap (λ (n : ℕ). n % 2 ^ 32) (div-eq-of-lt (word-fits r (has-fits e r h))))
+
+  long : wordIl (recordWord r) ≡ true
+  long = head-test ilRule ignores-isv r (has-own e r h) (has-fits e r h) ∙ has-il e r h
+
+  reads : AllPass (readTests (recordWord r))
+  reads = (upper, (word-class r (has-own e r h) (has-fits e r h), (long, tt)))
+
+pub sound : Sound editions recordWord has recordAt readTests writeTests
+sound =
+    record {
+      known = has-edition;
+      back = λ e r h. record-back r (has-own e r h) (has-fits e r h);
+      read-passes = reads;
+      read-early = λ w. (λ six. omega (arith, six), (λ six. omega (arith, six), (λ six. omega (arith, six), tt)));
+      write-passes = λ e r h. (has-own e r h, (has-il e r h, tt));
+      write-early = λ r. (λ six. omega (arith, six), (λ six. omega (arith, six), tt));
+    }

@@ -1,0 +1,32 @@
+-- What reading and writing test before they ask for the edition (01, 'Numbers a call may answer'): of a word its own bits, of a record its class and IL.
+use Prim.Native.Nat.{ℕ}
+use mathlib.Core.Bool.{Bool}
+use mathlib.Core.List.{List, [], _∷_}
+use lib.Dec.{eqb}
+use Rattle.bits.specs.Field.{fieldOf, bitOf}
+use Rattle.bits.specs.Decide.{Test, needs}
+use Rattle.edition.specs.declared.Refusal.{Refusal}
+use Rattle.edition.specs.declared.Refusal.the-variants.{UpperHalf, UnknownClass, ShortInstruction, NoEdition}
+use Rattle.record.specs.Class.{isClass, headOf}
+use Rattle.record.specs.declared.kinds.Record.{Record}
+use Rattle.rule.specs.Il.{ilRule}
+use Rattle.rule.specs.Has.{recordIl}
+
+-- 2: bits 63:32 of the syndrome are zero
+abbrev pub upperClear : ℕ → Bool
+upperClear w = eqb (fieldOf w 63 32) 0
+
+-- 3: the class, EC, is in the build
+abbrev pub classKnown : ℕ → Bool
+classKnown w = isClass (fieldOf w 31 26)
+
+-- 4: IL, bit 25, is 1 where EC and ISV, bit 24, ask for it
+abbrev pub wordIl : ℕ → Bool
+wordIl w = ilRule (fieldOf w 31 26) (bitOf w 24) (bitOf w 25)
+
+abbrev pub readTests : ℕ → List (Test Refusal)
+readTests w = needs (upperClear w) UpperHalf ∷ needs (classKnown w) UnknownClass ∷ needs (wordIl w) ShortInstruction ∷ []
+
+-- writing: a class that the record's kind lacks is 5, then 4
+abbrev pub writeTests : Record → List (Test Refusal)
+writeTests r = needs (headOf r .own) NoEdition ∷ needs (recordIl r) ShortInstruction ∷ []
