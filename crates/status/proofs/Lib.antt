@@ -4,3 +4,4 @@ pub mod Fields
 pub mod Again
 pub mod Unmarked
 pub mod Saved
+pub mod Advance

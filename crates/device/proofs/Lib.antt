@@ -1,0 +1,3 @@
+-- Lemmas that several proofs cite, and from `Answers` on the laws of the definitions.
+pub mod Sizes
+pub mod Answers
