@@ -16,8 +16,8 @@ use status::sound;
 use std::num::wrapping_add_u32;
 
 pub struct Finished {
-    pub state: Guest,
     pub answer: Answer,
+    pub state: Guest,
 }
 
 // The access that a record describes: that of a data abort with ISV 1.
