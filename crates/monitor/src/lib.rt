@@ -20,7 +20,7 @@ pub fn inject_in_place(state: &mut Guest, what: Injection) -> guest::Answer
 pub fn finish_in_place(state: &mut Guest, what: Record, value: u32) -> device::Answer
     ensures { λ r. ⌜ FinishPromise (now (state .entry)) what value (record { answer = r; state = now (state .exit) }) ⌝ }
 {
-    let after = finish(*state, what, value);
-    *state = after.state;
-    after.answer
+    let done = finish(*state, what, value);
+    *state = done.state;
+    done.answer
 }
