@@ -1,31 +1,35 @@
 //! The cases of the paper, "Cases from both sides of the line", with the
 //! answers typed in from it.
 
-use crate::catalogue::Catalogue;
-use crate::guest::{inject, Fault, Injection, State};
-use crate::record::Record;
-use crate::syndrome::{read, write};
-use crate::text::{answer_row, injected_row, line, record_of, record_row, row, trap_row};
-use crate::trap::{read_trap, Registers};
+use crate::call::{answers, lines, text, Call};
+use crate::form::Record;
+use crate::guest::{Fault, Injection, State};
+use crate::long::LONG;
+use crate::trap::Registers;
 
-/// The editions of a case that names none.
-pub const EVERY_EDITION: &[u32] = &[0, 1, 2, 3, 4, 5, 6, 7];
-
+/// A word and the answer to reading it. A case that names no edition holds in
+/// every one.
 pub struct ReadCase {
-    pub editions: &'static [u32],
-    pub word: u64,
-    pub answer: &'static str,
+    edition: Option<u32>,
+    word: u64,
+    answer: &'static str,
 }
 
 const fn reads(word: u64, answer: &'static str) -> ReadCase {
-    reads_in(EVERY_EDITION, word, answer)
+    ReadCase { edition: None, word, answer }
 }
 
-const fn reads_in(editions: &'static [u32], word: u64, answer: &'static str) -> ReadCase {
-    ReadCase { editions, word, answer }
+const fn reads_in(edition: u32, word: u64, answer: &'static str) -> ReadCase {
+    ReadCase { edition: Some(edition), word, answer }
 }
 
-pub const READS: [ReadCase; 27] = [
+impl ReadCase {
+    fn editions(&self) -> Vec<u32> {
+        self.edition.map_or_else(|| (0..LONG.editions).collect(), |edition| vec![edition])
+    }
+}
+
+const READS: [ReadCase; 27] = [
     reads(0x0200_0000, "0 0 0 1"),
     reads(0x0000_0000, "4 0 0"),
     // WFE.
@@ -49,30 +53,30 @@ pub const READS: [ReadCase; 27] = [
     reads(0x9000_0005, "4 0 0"),
     reads(0x9383_0085, "5 0 0"),
     // The masks are 85, 68, 240, 170 and 85.
-    reads_in(&[1], 0x9200_0018, "6 55 4"),
-    reads_in(&[7], 0x9200_001b, "6 44 2"),
-    reads_in(&[3], 0x9200_0031, "6 f0 4"),
-    reads_in(&[0], 0x9200_1010, "6 aa 4"),
+    reads_in(1, 0x9200_0018, "6 55 4"),
+    reads_in(7, 0x9200_001b, "6 44 2"),
+    reads_in(3, 0x9200_0031, "6 f0 4"),
+    reads_in(0, 0x9200_1010, "6 aa 4"),
     reads(0x9200_0810, "5 0 0"),
-    reads_in(&[1], 0x9383_0014, "6 55 4"),
+    reads_in(1, 0x9383_0014, "6 55 4"),
     reads(0x8200_0021, "5 0 0"),
     reads(0x1_9200_0005, "2 0 0"),
     // The first line that the paper's program is given.
-    reads_in(&[0], 0x9200_0005, "0 9 1 0 0 0 0 0 0 0 0 0 0 0 0 5"),
+    reads_in(0, 0x9200_0005, "0 9 1 0 0 0 0 0 0 0 0 0 0 0 0 5"),
 ];
 
-pub struct TrapCase {
-    pub registers: Registers,
-    pub answer: &'static str,
+struct TrapCase {
+    esr: u64,
+    answer: &'static str,
 }
 
 const fn trap(esr: u64, answer: &'static str) -> TrapCase {
-    let registers = Registers { esr, far: 0x8abc, hpfar: 0x1_2340 };
-    TrapCase { registers, answer }
+    TrapCase { esr, answer }
 }
 
-/// The address cases, for both aborts and in every edition.
-pub const TRAPS: [TrapCase; 4] = [
+/// The address cases, with FAR 0x8ABC and HPFAR 0x12340, for both aborts and in
+/// every edition.
+const TRAPS: [TrapCase; 4] = [
     trap(0x9200_0005, "0 9 1 0 0 0 0 0 0 0 0 0 0 0 0 5 1 8abc 2 1234abc"),
     trap(0x9200_0085, "0 9 1 0 0 0 0 0 0 0 0 0 0 1 0 5 1 8abc 1 1234000"),
     trap(0x8200_0005, "0 8 1 0 0 0 0 5 1 8abc 2 1234abc"),
@@ -80,15 +84,15 @@ pub const TRAPS: [TrapCase; 4] = [
 ];
 
 /// An injection that is taken, with the state before and after it.
-pub struct InjectionCase {
-    pub injection: Injection,
-    pub before: State,
-    pub after: State,
+struct InjectionCase {
+    injection: Injection,
+    before: State,
+    after: State,
 }
 
 /// A state whose numbers all differ, so that one put in the wrong place is
 /// seen. What the paper gives is set over it.
-fn state(status: u32, pc: u32, sctlr: u32) -> State {
+pub fn state(status: u32, pc: u32, sctlr: u32) -> State {
     State {
         registers: std::array::from_fn(|register| 0x100 + register as u32),
         pc,
@@ -134,7 +138,7 @@ fn data_abort(before: State, [status, link, pc, dfsr]: [u32; 4]) -> InjectionCas
     }
 }
 
-pub fn injections() -> Vec<InjectionCase> {
+fn injections() -> Vec<InjectionCase> {
     let at = Injection::UndefinedAt;
     let after = Injection::UndefinedAfter;
     let high_vectors = 0x4200_2000;
@@ -149,103 +153,66 @@ pub fn injections() -> Vec<InjectionCase> {
     ]
 }
 
-/// The read cases that are taken, as records to be written back.
-pub fn taken_reads() -> impl Iterator<Item = (&'static ReadCase, Record)> {
-    READS.iter().filter_map(|case| {
-        let record = case.answer.strip_prefix("0 ")?;
-        Some((case, record_of(&row_of(record))))
+/// A question with the answer that the paper gives.
+pub struct Case {
+    pub call: Call,
+    pub answer: String,
+}
+
+pub fn cases() -> Vec<Case> {
+    let mut cases = Vec::new();
+    for case in &READS {
+        for edition in case.editions() {
+            let call = Call::Read { edition, word: case.word };
+            cases.push(Case { call, answer: case.answer.into() });
+            cases.extend(written_back(case, edition));
+        }
+    }
+    for case in &TRAPS {
+        for edition in 0..LONG.editions {
+            let registers = Registers { esr: case.esr, far: 0x8abc, hpfar: 0x1_2340 };
+            let call = Call::Trap { edition, registers };
+            cases.push(Case { call, answer: case.answer.into() });
+        }
+    }
+    cases.extend(injections().into_iter().flat_map(injected));
+    cases
+}
+
+/// A record that is taken writes to its word again, and is carried to itself.
+fn written_back(case: &ReadCase, edition: u32) -> Vec<Case> {
+    let Some(row) = case.answer.strip_prefix("0 ") else { return vec![] };
+    let number = |word| u64::from_str_radix(word, 16).expect("a hexadecimal number");
+    let row: Vec<u64> = row.split(' ').map(number).collect();
+    let record = Record::from_row(&LONG, &row).expect("a record");
+    let carried = Call::Carry { writer: edition, reader: edition, record: record.clone() };
+    vec![
+        Case { call: Call::Write { edition, record }, answer: format!("0 {:x}", case.word) },
+        Case { call: carried, answer: format!("0 {}", case.answer) },
+    ]
+}
+
+fn injected(case: InjectionCase) -> [Case; 2] {
+    let InjectionCase { injection, before, after } = case;
+    let answer = format!("0 {}", text(&after.numbers()));
+    [false, true].map(|lent| {
+        let call = Call::Inject { lent, injection, state: before.clone() };
+        Case { call, answer: answer.clone() }
     })
 }
 
-fn row_of(line: &str) -> Vec<u64> {
-    let number = |word| u64::from_str_radix(word, 16).expect("a hexadecimal number");
-    line.split(' ').map(number).collect()
-}
-
-/// The words that answering the cases asks about.
-pub fn words() -> impl Iterator<Item = u32> {
-    let traps = TRAPS.iter().map(|case| case.registers.esr);
-    let words = READS.iter().map(|case| case.word).chain(traps);
-    words.filter_map(|word| u32::try_from(word).ok())
-}
-
-/// What this program answers to a case, and what the paper says.
-struct Outcome {
-    question: String,
-    answer: String,
-    expected: String,
-}
-
 /// The cases that this program answers otherwise than the paper.
-pub fn failures(catalogue: &Catalogue) -> Vec<String> {
-    let outcomes = [
-        read_outcomes(catalogue),
-        write_outcomes(catalogue),
-        trap_outcomes(catalogue),
-        injection_outcomes(),
-    ];
-    let failed =
-        outcomes.into_iter().flatten().filter(|outcome| outcome.answer != outcome.expected);
-    failed
-        .map(|o| format!("{}: {} but the paper says {}", o.question, o.answer, o.expected))
-        .collect()
-}
-
-fn read_outcomes(catalogue: &Catalogue) -> Vec<Outcome> {
-    let mut outcomes = Vec::new();
-    for case in &READS {
-        for &edition in case.editions {
-            let answer = read(catalogue, edition, case.word).map(|record| record_row(&record));
-            outcomes.push(Outcome {
-                question: format!("read {edition} {:x}", case.word),
-                answer: line(&answer_row(answer)),
-                expected: case.answer.into(),
-            });
-        }
-    }
-    outcomes
-}
-
-fn write_outcomes(catalogue: &Catalogue) -> Vec<Outcome> {
-    let mut outcomes = Vec::new();
-    for (case, record) in taken_reads() {
-        for &edition in case.editions {
-            let answer = write(catalogue, edition, &record).map(|word| row![word]);
-            outcomes.push(Outcome {
-                question: format!("write {edition} {record:x?}"),
-                answer: line(&answer_row(answer)),
-                expected: line(&[0, case.word]),
-            });
-        }
-    }
-    outcomes
-}
-
-fn trap_outcomes(catalogue: &Catalogue) -> Vec<Outcome> {
-    let mut outcomes = Vec::new();
-    for case in &TRAPS {
-        for &edition in EVERY_EDITION {
-            let answer = read_trap(catalogue, edition, case.registers).map(|trap| trap_row(&trap));
-            outcomes.push(Outcome {
-                question: format!("trap {edition} {:x?}", case.registers),
-                answer: line(&answer_row(answer)),
-                expected: case.answer.into(),
-            });
-        }
-    }
-    outcomes
-}
-
-fn injection_outcomes() -> Vec<Outcome> {
-    let outcome = |case: InjectionCase| {
-        let answer = inject(&case.before, &case.injection);
-        Outcome {
-            question: format!("{:x?}", case.injection),
-            answer: line(&injected_row(&case.before, &answer)),
-            expected: line(&injected_row(&case.before, &Ok(case.after))),
-        }
+pub fn failures() -> Vec<String> {
+    let cases = cases();
+    let questions: String = cases.iter().map(|case| case.call.line() + "\n").collect();
+    let answers = answers(questions.as_bytes());
+    let wrong = |(case, answer): (Case, &[u8])| {
+        let answer = String::from_utf8_lossy(answer).into_owned();
+        let expected = case.answer;
+        (answer != expected)
+            .then(|| format!("{}: {answer} but the paper says {expected}", case.call.line()))
     };
-    injections().into_iter().map(outcome).collect()
+    cases.into_iter().zip(lines(&answers)).filter_map(wrong).collect()
 }
 
 #[cfg(test)]
@@ -254,7 +221,7 @@ mod tests {
 
     #[test]
     fn answers_are_those_of_the_paper() {
-        let failures = failures(&Catalogue::of(words()));
+        let failures = failures();
         assert!(failures.is_empty(), "{}", failures.join("\n"));
     }
 }

@@ -1,60 +1,58 @@
 //! The words that are asked about, each with the record that makes it.
 
 use crate::edition::EditionMask;
-use crate::enumerate::records_of_class;
-use crate::record::Record;
+use crate::form::{Form, Record};
 use std::collections::{BTreeMap, HashMap};
 
 /// A record that some edition has, and all the editions that have it.
-#[derive(Clone, Copy, Debug)]
+#[derive(Clone, Debug)]
 pub struct Entry {
     pub record: Record,
     pub editions: EditionMask,
 }
 
-/// The answer of the enumeration for a set of words. To keep all records of
-/// the build would take gigabytes, so that the words are named beforehand.
+/// The answer of the enumeration for a set of words of a form. To keep all
+/// records of the build would take gigabytes, so that the words are named
+/// beforehand.
 pub struct Catalogue {
+    pub form: &'static Form,
     entries: HashMap<u32, Option<Entry>>,
 }
 
 impl Catalogue {
-    pub fn of(words: impl IntoIterator<Item = u32>) -> Catalogue {
+    pub fn of(form: &'static Form, words: impl IntoIterator<Item = u32>) -> Catalogue {
         let entries: HashMap<u32, Option<Entry>> =
             words.into_iter().map(|word| (word, None)).collect();
         let mut by_class: BTreeMap<u8, WordSet> = BTreeMap::new();
         for &word in entries.keys() {
             by_class.entry(class_of(word)).or_default().insert(word);
         }
-        let mut catalogue = Catalogue { entries };
+        let mut catalogue = Catalogue { form, entries };
         for (class, wanted) in by_class {
-            records_of_class(class, &mut |record, editions| {
-                let word = record.word();
+            form.records_of_class(class, &mut |values, word, editions| {
                 if wanted.contains(word) {
-                    catalogue.note(word, record, editions);
+                    catalogue.note(class, values, word, editions);
                 }
             });
         }
         catalogue
     }
 
-    fn note(&mut self, word: u32, record: Record, editions: EditionMask) {
+    fn note(&mut self, class: u8, values: &[u32], word: u32, editions: EditionMask) {
+        let kind = self.form.kind_of_class(class).expect("a class of the form");
+        let record = Record { kind, class: class.into(), values: values.to_vec() };
         let slot = self.entries.get_mut(&word).expect("a wanted word");
-        let known = match *slot {
-            Some(entry) => {
-                assert_eq!(entry.record, record, "two records make one word");
-                entry.editions
-            }
-            None => EditionMask::NONE,
-        };
-        let editions = known.joined(editions);
-        *slot = Some(Entry { record, editions });
+        let known = slot.as_ref().map_or(EditionMask::NONE, |entry| {
+            assert_eq!(entry.record, record, "two records make one word");
+            entry.editions
+        });
+        *slot = Some(Entry { record, editions: known.joined(editions) });
     }
 
     /// The record that makes the word, if any edition has one. The word must
     /// be among those the catalogue was made for.
-    pub fn find(&self, word: u32) -> Option<Entry> {
-        self.entries[&word]
+    pub fn find(&self, word: u32) -> Option<&Entry> {
+        self.entries[&word].as_ref()
     }
 }
 

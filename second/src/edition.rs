@@ -1,48 +1,44 @@
-//! The eight editions and sets of them.
+//! Editions as sets of features, and sets of editions.
 
-/// One choice of the three features that the rules ask about.
+/// An edition by its number: RAS counts 1, LPA2 counts 2, HAFDBS counts 4.
 #[derive(Clone, Copy, Debug, PartialEq, Eq)]
-pub struct Edition {
-    pub ras: bool,
-    pub lpa2: bool,
-    pub hafdbs: bool,
-}
+pub struct Edition(pub u32);
 
 impl Edition {
-    pub fn all() -> impl Iterator<Item = Edition> {
-        let choices = [false, true];
-        choices.into_iter().flat_map(move |hafdbs| {
-            choices.into_iter().flat_map(move |lpa2| {
-                choices.into_iter().map(move |ras| Edition { ras, lpa2, hafdbs })
-            })
-        })
+    pub fn ras(self) -> bool {
+        self.counts(1)
     }
 
-    /// RAS counts 1, LPA2 counts 2, HAFDBS counts 4.
-    pub fn number(self) -> u32 {
-        u32::from(self.ras) + 2 * u32::from(self.lpa2) + 4 * u32::from(self.hafdbs)
+    pub fn lpa2(self) -> bool {
+        self.counts(2)
     }
 
-    /// The edition with this number, if it is 0..7.
-    pub fn numbered(number: u32) -> Option<Edition> {
-        Edition::all().find(|edition| edition.number() == number)
+    pub fn hafdbs(self) -> bool {
+        self.counts(4)
+    }
+
+    fn counts(self, feature: u32) -> bool {
+        self.0 / feature % 2 == 1
     }
 }
 
 /// A set of editions: bit e is set when edition e is meant.
-#[derive(Clone, Copy, Debug, PartialEq, Eq)]
-pub struct EditionMask(pub u8);
+#[derive(Clone, Copy, Debug, Default, PartialEq, Eq)]
+pub struct EditionMask(pub u32);
 
 impl EditionMask {
     pub const NONE: EditionMask = EditionMask(0);
-    pub const ALL: EditionMask = EditionMask(0xff);
 
     pub fn only(edition: Edition) -> EditionMask {
-        EditionMask(1 << edition.number())
+        EditionMask(1 << edition.0)
     }
 
     pub fn contains(self, edition: Edition) -> bool {
-        self.0 & EditionMask::only(edition).0 != 0
+        self.meets(EditionMask::only(edition))
+    }
+
+    pub fn meets(self, other: EditionMask) -> bool {
+        self.0 & other.0 != 0
     }
 
     pub fn joined(self, other: EditionMask) -> EditionMask {
@@ -51,17 +47,5 @@ impl EditionMask {
 
     pub fn count(self) -> u32 {
         self.0.count_ones()
-    }
-}
-
-#[cfg(test)]
-mod tests {
-    use super::*;
-
-    #[test]
-    fn editions_are_numbered_in_order() {
-        let numbers: Vec<u32> = Edition::all().map(Edition::number).collect();
-        assert_eq!(numbers, [0, 1, 2, 3, 4, 5, 6, 7]);
-        assert_eq!(Edition::numbered(8), None);
     }
 }

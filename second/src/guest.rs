@@ -44,6 +44,33 @@ impl State {
         self.registers.into_iter().chain(rest).map(u64::from).collect()
     }
 
+    /// The state that 45 numbers show, if each has 32 bits.
+    pub fn from_numbers(numbers: &[u64]) -> Option<State> {
+        let words = numbers.iter().map(|&number| u32::try_from(number).ok());
+        let words: Vec<u32> = words.collect::<Option<_>>()?;
+        let (registers, rest) = words.split_at_checked(31)?;
+        let registers = registers.try_into().ok()?;
+        let [pc, status, fiq, irq, svc, abt, und, dfsr, ifsr, dfar, ifar, sctlr, vbar, ttbcr] =
+            rest.try_into().ok()?;
+        Some(State {
+            registers,
+            pc,
+            status,
+            spsr_fiq: fiq,
+            spsr_irq: irq,
+            spsr_svc: svc,
+            spsr_abt: abt,
+            spsr_und: und,
+            dfsr,
+            ifsr,
+            dfar,
+            ifar,
+            sctlr,
+            vbar,
+            ttbcr,
+        })
+    }
+
     fn sctlr(&self) -> Sctlr {
         let bit = |at: u32| self.sctlr >> at & 1 == 1;
         Sctlr { te: bit(30), ee: bit(25), v: bit(13) }

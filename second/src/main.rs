@@ -2,29 +2,29 @@
 
 #[cfg(feature = "compare")]
 mod bench;
+mod call;
 mod cases;
 mod catalogue;
 #[cfg(feature = "compare")]
 mod compare;
 mod edition;
-mod enumerate;
+mod form;
 mod guest;
-mod kinds;
+mod long;
 #[cfg(any(feature = "compare", test))]
 mod ordinary;
+mod programs;
 #[cfg(feature = "compare")]
 mod proved;
 mod random;
-mod record;
+mod rows;
 mod status;
 mod syndrome;
 #[cfg(feature = "compare")]
 mod table;
 #[cfg(feature = "compare")]
 mod tally;
-mod text;
 mod trap;
-mod vectors;
 
 use std::env;
 use std::io;
@@ -32,8 +32,10 @@ use std::path::Path;
 use std::process::ExitCode;
 
 const USAGE: &str = "\
-usage: second vectors DIR
+usage: second rows DIR
        second check DIR
+       second programs DIR
+       second answer NAME
        second compare [FIRST LAST [STRIDE]]
        second bench
 The last two need the feature `compare`.";
@@ -58,8 +60,13 @@ fn usage() -> io::Error {
 /// True when the command found everything as it should be.
 fn run(words: &[&str]) -> io::Result<bool> {
     match words {
-        ["vectors", directory] => vectors::write(Path::new(directory)),
-        ["check", directory] => vectors::check(Path::new(directory)),
+        ["rows", directory] => rows::write(Path::new(directory)),
+        ["check", directory] => {
+            let directory = Path::new(directory);
+            Ok(rows::check(directory)? & programs::check(directory)?)
+        }
+        ["answer", name] => programs::answer(name),
+        ["programs", directory] => programs::run(Path::new(directory)),
         #[cfg(feature = "compare")]
         ["compare", range @ ..] => compare_range(range),
         #[cfg(feature = "compare")]

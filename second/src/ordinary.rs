@@ -2,19 +2,63 @@
 //! the proved reader is timed against.
 
 use crate::edition::EditionMask;
-use crate::record::{Access, Condition, FaultStatus, Record};
+use crate::long::LONG;
 use crate::syndrome::Refusal;
 
-const RAS: u8 = 0b1010_1010;
-const LPA2: u8 = 0b1100_1100;
-const HAFDBS: u8 = 0b1111_0000;
-const ALL: u8 = 0b1111_1111;
+const RAS: u32 = 0b1010_1010;
+const LPA2: u32 = 0b1100_1100;
+const HAFDBS: u32 = 0b1111_0000;
+const ALL: u32 = 0b1111_1111;
+
+/// A record as this reader holds it. Nobody reads it: it is built since the
+/// proved reader builds one too.
+#[derive(Clone, Copy, Debug)]
+#[allow(dead_code)]
+pub enum Record {
+    Plain { class: u8, il: bool },
+    Wfx { il: bool, condition: Condition, ti: bool },
+    Mcr { class: u8, il: bool, condition: Condition, opc: [u8; 2], cr: [u8; 2], rt: u8, read: bool },
+    Mcrr { class: u8, il: bool, condition: Condition, opc1: u8, crm: u8, rt: [u8; 2], read: bool },
+    Ldc { il: bool, condition: Condition, imm8: u8, rn: u8, offset: bool, am: u8, read: bool },
+    FloatingPoint { il: bool, condition: Condition },
+    Call { class: u8, il: bool, imm16: u16 },
+    Smc { il: bool, condition: Condition, ccknownpass: bool },
+    InstructionAbort { il: bool, status: FaultStatus },
+    DataAbort { il: bool, access: Access, cm: bool, wnr: bool, status: FaultStatus },
+}
+
+#[derive(Clone, Copy, Debug)]
+#[allow(dead_code)]
+pub struct Condition {
+    cv: bool,
+    cond: u8,
+}
+
+#[derive(Clone, Copy, Debug)]
+#[allow(dead_code)]
+pub struct Access {
+    isv: bool,
+    sas: u8,
+    sse: bool,
+    srt: u8,
+    sf: bool,
+    ar: bool,
+}
+
+#[derive(Clone, Copy, Debug)]
+pub struct FaultStatus {
+    set: u8,
+    fnv: bool,
+    ea: bool,
+    s1ptw: bool,
+    code: u8,
+}
 
 /// A word's record with the editions that have it; None where no edition has.
-type Found = Option<(Record, u8)>;
+type Found = Option<(Record, u32)>;
 
 pub fn read(edition: u32, word: u64) -> Result<Record, Refusal> {
-    if edition > 7 {
+    if edition >= LONG.editions {
         return Err(Refusal::plain(1));
     }
     if word >> 32 != 0 {
@@ -96,12 +140,10 @@ fn mcr(word: u32, class: u8, il: bool) -> Option<Record> {
         class,
         il,
         condition: condition(word)?,
-        opc2: bits(word, 19, 17),
-        opc1: bits(word, 16, 14),
-        crn: bits(word, 13, 10),
+        opc: [bits(word, 16, 14), bits(word, 19, 17)],
+        cr: [bits(word, 13, 10), bits(word, 4, 1)],
         rt: bits(word, 9, 5),
-        crm: bits(word, 4, 1),
-        direction: bit(word, 0),
+        read: bit(word, 0),
     })
 }
 
@@ -114,10 +156,9 @@ fn mcrr(word: u32, class: u8, il: bool) -> Option<Record> {
         il,
         condition: condition(word)?,
         opc1: bits(word, 19, 16),
-        rt2: bits(word, 14, 10),
-        rt: bits(word, 9, 5),
         crm: bits(word, 4, 1),
-        direction: bit(word, 0),
+        rt: [bits(word, 9, 5), bits(word, 14, 10)],
+        read: bit(word, 0),
     })
 }
 
@@ -134,7 +175,7 @@ fn ldc(word: u32, il: bool) -> Option<Record> {
         rn: bits(word, 9, 5),
         offset: bit(word, 4),
         am,
-        direction,
+        read: direction,
     })
 }
 
@@ -155,7 +196,7 @@ fn smc(word: u32, il: bool) -> Option<Record> {
     only(word, named).then_some(Record::Smc { il, condition, ccknownpass })
 }
 
-fn fault_code_editions(code: u8) -> u8 {
+fn fault_code_editions(code: u8) -> u32 {
     match code {
         0x00..=0x07 | 0x09..=0x0b | 0x0d..=0x10 | 0x14..=0x17 | 0x30 => ALL,
         0x08 | 0x0c | 0x13 | 0x29 | 0x2b => LPA2,
@@ -166,7 +207,7 @@ fn fault_code_editions(code: u8) -> u8 {
     }
 }
 
-fn data_fault_code_editions(code: u8) -> u8 {
+fn data_fault_code_editions(code: u8) -> u32 {
     match code {
         0x21 | 0x34 | 0x35 => ALL,
         _ => fault_code_editions(code),
@@ -174,7 +215,7 @@ fn data_fault_code_editions(code: u8) -> u8 {
 }
 
 /// The fields of both aborts, with the editions that SET leaves.
-fn fault_status(word: u32) -> Option<(FaultStatus, u8)> {
+fn fault_status(word: u32) -> Option<(FaultStatus, u32)> {
     let status = FaultStatus {
         set: bits(word, 12, 11),
         fnv: bit(word, 10),
@@ -236,7 +277,7 @@ fn access(word: u32) -> Access {
 }
 
 /// The editions in which the access of a word with ISV 1 may stand.
-fn access_editions(word: u32, code: u8) -> u8 {
+fn access_editions(word: u32, code: u8) -> u32 {
     let access = access(word);
     let (cm, s1ptw, wnr) = (bit(word, 8), bit(word, 7), bit(word, 6));
     let sign_extends_a_store_or_word = access.sse && (access.sas > 1 || wnr);

@@ -1,5 +1,8 @@
 //! The proved code, called through its static library.
 
+use crate::form::Form;
+use crate::long::LONG;
+
 /// What `rewrite` gives where reading or writing refused.
 pub const REFUSED: u64 = u64::MAX;
 
@@ -8,15 +11,26 @@ extern "C" {
     fn knucklepin_rewrite(reader: u32, writer: u32, word: u64) -> u64;
 }
 
-/// The answer to reading a word: number, mask << 8, count << 24.
-pub fn read(edition: u32, word: u64) -> u64 {
-    // SAFETY: the call takes and gives plain numbers and keeps no state.
-    unsafe { knucklepin_read(edition, word) }
+/// The proved reader and writer of a form.
+pub struct Proved {
+    pub name: &'static str,
+    pub form: &'static Form,
+    /// The answer to reading a word: number, mask << 8, count << 24.
+    pub read: fn(u32, u32) -> u64,
+    /// The word that the second edition puts out for the record that the first
+    /// reads.
+    pub rewrite: fn(u32, u32, u32) -> u64,
 }
 
-/// The word that the edition `writer` puts out for the record that the
-/// edition `reader` reads.
-pub fn rewrite(reader: u32, writer: u32, word: u64) -> u64 {
+pub const PROVED: [Proved; 1] =
+    [Proved { name: "long", form: &LONG, read: read_long, rewrite: rewrite_long }];
+
+pub fn read_long(edition: u32, word: u32) -> u64 {
     // SAFETY: the call takes and gives plain numbers and keeps no state.
-    unsafe { knucklepin_rewrite(reader, writer, word) }
+    unsafe { knucklepin_read(edition, word.into()) }
+}
+
+fn rewrite_long(reader: u32, writer: u32, word: u32) -> u64 {
+    // SAFETY: the call takes and gives plain numbers and keeps no state.
+    unsafe { knucklepin_rewrite(reader, writer, word.into()) }
 }

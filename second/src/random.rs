@@ -24,10 +24,6 @@ impl Random {
         (self.next() >> 32) as u32
     }
 
-    pub fn edition(&mut self) -> u32 {
-        self.below(8) as u32
-    }
-
     pub fn pick<T: Copy>(&mut self, choices: &[T]) -> T {
         choices[self.below(choices.len() as u64) as usize]
     }

@@ -1,30 +1,33 @@
 //! Counts of answers and differences, and their summary.
 
-use crate::record::CLASSES;
+use crate::form::Form;
 
-pub const EDITIONS: usize = 8;
-/// Answers that reading gives to a 32-bit word in an edition 0..7.
+/// Answers that reading gives to a 32-bit word in an edition that there is.
 const ANSWERS: [usize; 5] = [0, 3, 4, 5, 6];
 const SHOWN_DIFFERENCES: usize = 10;
 
 /// What the proved code answered otherwise than the enumeration.
 pub struct Difference {
     pub call: &'static str,
-    pub editions: Vec<usize>,
+    pub editions: Vec<u32>,
     pub word: u32,
     pub answer: u64,
     pub expected: u64,
 }
 
 /// How often each answer is expected, by edition, and the differences.
-#[derive(Default)]
 pub struct Tally {
-    pub answers: [[u64; 7]; EDITIONS],
+    pub answers: Vec<[u64; 7]>,
     pub differences: u64,
     shown: Vec<Difference>,
 }
 
 impl Tally {
+    pub fn new(form: &Form) -> Tally {
+        let answers = vec![[0; 7]; form.editions as usize];
+        Tally { answers, differences: 0, shown: Vec::new() }
+    }
+
     pub fn note(&mut self, difference: Difference) {
         self.differences += 1;
         if self.shown.len() < SHOWN_DIFFERENCES {
@@ -70,7 +73,7 @@ fn print_heading() {
 /// One row for a class whose editions are all alike, else one for each.
 fn print_editions(class: &str, tally: &Tally) {
     if tally.answers.iter().all(|row| row == &tally.answers[0]) {
-        return print_row(class, "0..7", &tally.answers[0]);
+        return print_row(class, "all", &tally.answers[0]);
     }
     for (edition, row) in tally.answers.iter().enumerate() {
         print_row(class, &edition.to_string(), row);
@@ -79,16 +82,16 @@ fn print_editions(class: &str, tally: &Tally) {
 
 /// Words by class, edition and answer. The classes outside the build share
 /// their rows.
-pub fn print_classes(tallies: &[(u8, Tally)]) {
+pub fn print_classes(form: &Form, tallies: &[(u8, Tally)]) {
     println!("\nwords by class, edition and answer (0 is taken):");
     print_heading();
-    let mut others = Tally::default();
+    let mut others = Tally::new(form);
     for (class, tally) in tallies {
-        if CLASSES.contains(class) {
+        if form.kind_of_class(*class).is_some() {
             print_editions(&format!("{class:02x}"), tally);
             continue;
         }
-        for (sum, row) in others.answers.iter_mut().zip(tally.answers) {
+        for (sum, row) in others.answers.iter_mut().zip(&tally.answers) {
             sum[3] += row[3];
         }
     }

@@ -2,7 +2,7 @@
 
 use crate::catalogue::Catalogue;
 use crate::edition::Edition;
-use crate::record::Record;
+use crate::form::Record;
 use crate::syndrome::{read, Refusal};
 
 /// What is known of the intermediate physical address.
@@ -13,7 +13,7 @@ pub enum Intermediate {
     Byte(u64),
 }
 
-#[derive(Clone, Copy, Debug, PartialEq, Eq)]
+#[derive(Clone, Debug, PartialEq, Eq)]
 pub struct Trap {
     pub record: Record,
     pub virtual_address: Option<u32>,
@@ -52,23 +52,34 @@ pub fn read_trap(
     Ok(Trap { record, virtual_address, intermediate })
 }
 
+/// The trap in two editions, or the refusal of the first that refuses it.
+pub fn read_both(
+    catalogue: &Catalogue,
+    [first, second]: [u32; 2],
+    registers: Registers,
+) -> Result<[Trap; 2], Refusal> {
+    let trap = read_trap(catalogue, first, registers)?;
+    let other = read_trap(catalogue, second, registers)?;
+    Ok([trap, other])
+}
+
 /// S1PTW: the fault came while walking the first stage, so that FAR isn't the
 /// address that the second stage was asked for.
 fn on_a_walk(record: &Record) -> bool {
-    record.fault_status().is_some_and(|status| status.s1ptw)
+    record.is_set("S1PTW")
 }
 
 fn far_counts(record: &Record) -> bool {
-    match record.fault_status() {
-        Some(status) => !(status.code == 0x10 && status.fnv),
-        None => record.class() == 0x22,
+    match record.get("code") {
+        Some(code) => !(code == 0x10 && record.is_set("FnV")),
+        None => record.class == 0x22,
     }
 }
 
 /// A permission fault of the second stage leaves HPFAR UNKNOWN unless it came
 /// on a walk.
 fn hpfar_counts(record: &Record) -> bool {
-    match record.fault_status().map(|status| status.code) {
+    match record.get("code") {
         Some(0x00..=0x0b | 0x29 | 0x2b) => true,
         Some(0x0c..=0x0f) => on_a_walk(record),
         _ => false,
@@ -78,8 +89,7 @@ fn hpfar_counts(record: &Record) -> bool {
 /// The page address of HPFAR, whose page number begins at bit 4 and ends at
 /// bit 43 with LPA2, else at bit 39.
 fn page(edition: u32, hpfar: u64) -> Result<u64, Refusal> {
-    let lpa2 = Edition::numbered(edition).is_some_and(|edition| edition.lpa2);
-    let width = if lpa2 { 40 } else { 36 };
+    let width = if Edition(edition).lpa2() { 40 } else { 36 };
     let number = hpfar / 16;
     if !hpfar.is_multiple_of(16) || number >= 1 << width {
         return Err(Refusal::plain(7));
@@ -90,9 +100,10 @@ fn page(edition: u32, hpfar: u64) -> Result<u64, Refusal> {
 #[cfg(test)]
 mod tests {
     use super::*;
+    use crate::long::LONG;
 
     fn trap(edition: u32, esr: u32, far: u64, hpfar: u64) -> Result<Trap, u8> {
-        let catalogue = Catalogue::of([esr]);
+        let catalogue = Catalogue::of(&LONG, [esr]);
         let esr = esr.into();
         read_trap(&catalogue, edition, Registers { esr, far, hpfar })
             .map_err(|refusal| refusal.number)

@@ -87,6 +87,21 @@ with-decided (needs false number ∷ tests) k (inr f) = absurd (true≢false (sy
 pub decided-with-exactly : (tests : List (Test ℕ)) (k : ℕ) → (decide tests 0 ≡ k) ↔ FailsWith k tests
 decided-with-exactly tests k = (decided-with tests k, with-decided tests k)
 
+-- where the tests come to 0, and none of them has 0, another last answer comes in its place; where they don't, it makes no difference
+pub decide-zero : (tests : List (Test ℕ)) (last : ℕ) → T (distinct tests) → decide tests 0 ≡ 0 → decide tests last ≡ last
+decide-zero [] last d z = refl
+decide-zero (needs true number ∷ tests) last d z = decide-zero tests last (both-right (unused number tests) (distinct tests) d) z
+decide-zero (needs false number ∷ tests) last d z = absurd (zero-used number tests (both-left (unused number tests) (distinct tests) d) z)
+  where
+    zero-used : (k : ℕ) (rest : List (Test ℕ)) → T (unused k rest) → k ≡ 0 → ⊥
+    zero-used k [] u e = unequal k 0 u e
+    zero-used k (needs passes other ∷ rest) u e = zero-used k rest (both-right (not (eqb k other)) (unused k rest) u) e
+
+pub decide-other : (tests : List (Test ℕ)) (last : ℕ) → (decide tests 0 ≡ 0 → ⊥) → decide tests last ≡ decide tests 0
+decide-other [] last n = absurd (n refl)
+decide-other (needs true number ∷ tests) last n = decide-other tests last n
+decide-other (needs false number ∷ tests) last n = refl
+
 -- every answer is the last one or a test's
 abbrev pub OneOf : {A : Type 0} → (A → Type 0) → List (Test A) → Type 0
 OneOf P [] = Unit {0}

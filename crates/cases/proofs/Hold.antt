@@ -2,22 +2,20 @@
 -- Assumes nothing.
 use mathlib.Core.Path.{_≡_, refl, _∙_, sym, ap, ap₂, subst}
 use mathlib.Core.Bool.{Bool, true, false, cond}
-use mathlib.Core.Logic.{⊎-elim}
-use Prim.Native.Nat.{ℕ, zero, suc, _+_, _%_, _^_, _<_}
-use native.Mathlib.Nat.{eq-or-lt-of-le, le-of-suc-le-suc, not-suc-le-zero}
+use Prim.Native.Nat.{ℕ, _+_, _%_, _^_, _<_}
 use lib.Count.{ones}
 use lib.Dec.{lit<}
 use lib.IntN.{pos}
 use lib.ListN.{getD}
-use Rattle.edition.specs.Feature.{editions}
 use Rattle.edition.specs.Mask.{maskOf}
 use Rattle.edition.specs.Judge.{judgeOf}
 use Rattle.edition.specs.declared.Refusal.the-variants.{ShortInstruction, NoEdition, OtherEditions}
-use Rattle.syndrome.specs.Has.{lawful, has}
-use Rattle.syndrome.specs.Split.{foundAt}
-use Rattle.syndrome.specs.Answer.{readRecord, readOf}
-use Rattle.syndrome.specs.declared.record.Record.{Record}
-use Rattle.syndrome.specs.declared.answer.Read.{Read}
+use Rattle.form.specs.Call.{callOf}
+use Rattle.form.specs.Form as Form
+use Rattle.record.specs.Split.{recordOf}
+use Rattle.rule.specs.Has.{lawful, has}
+use Rattle.syndrome.specs.Reading.{readOf}
+use Rattle.syndrome.proofs.Everywhere.{taken-everywhere, short-everywhere, none-everywhere}
 use Rattle.status.specs.declared.Marks.{Marks}
 use Rattle.status.specs.Mode.{isMode}
 use Rattle.status.specs.Base.{unmarked}
@@ -39,26 +37,7 @@ use Rattle.guest.specs.declared.state.Guest.{Guest}
 use Rattle.guest.proofs.Answers.{Passes, accepted-exactly, accepted-state}
 use Rattle.guest.proofs.Registers.{link-held}
 use Rattle.cases.specs.Case.{Leaves, Whole, Passing, AllHold}
-use Rattle.cases.specs.Starred.{store-of-3, starred}
-
--- what holds in each of the editions, one after the other, holds in every edition
-in-each : (P : ℕ → Type 0) → P 0 → P 1 → P 2 → P 3 → P 4 → P 5 → P 6 → P 7 → (e : ℕ) → e < editions → P e
-in-each P p0 p1 p2 p3 p4 p5 p6 p7 = below 8 (p7, (p6, (p5, (p4, (p3, (p2, (p1, (p0, tt))))))))
-  where
-    AllBelow : ℕ → Type 0
-    AllBelow zero = Unit {0}
-    AllBelow (suc n) = P n × AllBelow n
-
-    below : (n : ℕ) → AllBelow n → (e : ℕ) → e < n → P e
-    below zero all e h = absurd (not-suc-le-zero h)
-    below (suc n) all e h =
-        ⊎-elim (λ same. subst P (sym same) (all .0)) (below n (all .1) e) (eq-or-lt-of-le (le-of-suc-le-suc h))
-
--- a word that every edition answers alike
-alike : (w : ℕ) (answer : Read) → readOf 0 w ≡ answer → readOf 1 w ≡ answer → readOf 2 w ≡ answer → readOf 3 w ≡ answer
-    → readOf 4 w ≡ answer → readOf 5 w ≡ answer → readOf 6 w ≡ answer → readOf 7 w ≡ answer
-    → (e : ℕ) → e < editions → readOf e w ≡ answer
-alike w answer = in-each (λ e. readOf e w ≡ answer)
+use Rattle.cases.specs.Starred.{starred}
 
 -- an injection that passes leaves what the definition of the new state computes
 leaves : (s : Guest) (i : Injection) {status link pc : ℕ} → Passes s i → guestAfter s i .status ≡ status
@@ -104,42 +83,21 @@ aborted s a status sctlr p is-sound high st sc =
     ∙ ap (λ (c : Correction). linkOf (s .pc) (signed c)) (abort-correction a (t32 (s .status))))
     (ap (λ (b : Bool). (cond b 0xFFFF_0000 (s .vbar) + 0x10) % 2 ^ 32) (ap (λ (w : ℕ). bitOf w 13) sc ∙ high))
 
--- 0x91830005: a word load of register 3 with IL 0
-load-of-3 : Record
-load-of-3 =
-    Record.DataAbort
-    record {
-      il = false;
-      isv = true;
-      sas = 2;
-      sse = false;
-      srt = 3;
-      sf = false;
-      ar = false;
-      set = 0;
-      fnv = false;
-      ea = false;
-      cm = false;
-      s1ptw = false;
-      wnr = false;
-      code = 5;
-    }
-
 -- THE STARRED CASES, one list with one statement
 pub all-hold : AllHold starred
-unfolding load-of-3 readOf readRecord foundAt has lawful maskOf judgeOf ones isMode sound aligned entryStatus linkOf
+unfolding readOf callOf Form.hasWord recordOf has lawful maskOf judgeOf ones isMode sound aligned entryStatus linkOf
 all-hold = (
-  λ e h. (_, alike 0x02000000 (Read.Taken (Record.Plain record { class = 0; il = true })) refl refl refl refl refl refl refl refl e h),
+  λ e h. (_, taken-everywhere (record { 0 = 0x02000000 }) e h refl),
   (
-    λ e h. (ShortInstruction, alike 0x00000000 (Read.Refused ShortInstruction) refl refl refl refl refl refl refl refl e h, refl, refl, refl),
+    λ e h. (ShortInstruction, short-everywhere (record { 0 = 0x00000000 }) e h refl refl refl, refl, refl, refl),
     (
-      alike 0x93830045 (Read.Taken store-of-3) refl refl refl refl refl refl refl refl,
+      λ e h. taken-everywhere (record { 0 = 0x93830045 }) e h refl,
       (
-        λ e h. (_, alike 0x91830005 (Read.Taken load-of-3) refl refl refl refl refl refl refl refl e h),
+        λ e h. (_, taken-everywhere (record { 0 = 0x91830005 }) e h refl),
         (
-          λ e h. (ShortInstruction, alike 0x90000005 (Read.Refused ShortInstruction) refl refl refl refl refl refl refl refl e h, refl, refl, refl),
+          λ e h. (ShortInstruction, short-everywhere (record { 0 = 0x90000005 }) e h refl refl refl, refl, refl, refl),
           (
-            λ e h. (NoEdition, alike 0x93830085 (Read.Refused NoEdition) refl refl refl refl refl refl refl refl e h, refl, refl, refl),
+            λ e h. (NoEdition, none-everywhere (record { 0 = 0x93830085 }) e h refl refl refl refl, refl, refl, refl),
             (
               (OtherEditions 85 4, refl, refl, refl, refl),
               (
@@ -149,7 +107,7 @@ all-hold = (
                   (
                     (OtherEditions 170 4, refl, refl, refl, refl),
                     (
-                      λ e h. (NoEdition, alike 0x92000810 (Read.Refused NoEdition) refl refl refl refl refl refl refl refl e h, refl, refl, refl),
+                      λ e h. (NoEdition, none-everywhere (record { 0 = 0x92000810 }) e h refl refl refl refl, refl, refl, refl),
                       (
                         (OtherEditions 85 4, refl, refl, refl, refl),
                         (

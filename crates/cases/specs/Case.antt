@@ -1,4 +1,4 @@
--- A worked case, and what it says. What a case leaves open holds for every value of it.
+-- A worked case (01, 'Cases from both sides of the line'), and what it says. What a case leaves open holds for every value of it.
 use mathlib.Core.Path.{_≡_}
 use mathlib.Core.Bool.{true}
 use mathlib.Core.List.{List, [], _∷_}
@@ -6,10 +6,10 @@ use Prim.Native.Nat.{ℕ, _<_}
 use lib.IntN.{pos}
 use lib.ListN.{length, getD}
 use Rattle.edition.specs.Feature.{editions}
-use Rattle.edition.specs.Judge.{numberOf, maskIn, countIn}
+use Rattle.edition.specs.Judge.{refusalNumber, refusalMask, refusalCount}
 use Rattle.edition.specs.declared.Refusal.{Refusal}
-use Rattle.syndrome.specs.Answer.{readOf}
-use Rattle.syndrome.specs.declared.record.Record.{Record}
+use Rattle.record.specs.declared.kinds.Record.{Record}
+use Rattle.syndrome.specs.Reading.{readOf}
 use Rattle.syndrome.specs.declared.answer.Read.{Read}
 use Rattle.status.specs.Base.{unmarked}
 use Rattle.guest.specs.Inject.{injected}
@@ -32,7 +32,7 @@ abbrev pub AnswersAs : Read → Answers → Type 0
 AnswersAs read (record-read r) = read ≡ Read.Taken r
 AnswersAs read taken = (r : Record) × (read ≡ Read.Taken r)
 AnswersAs read (refused number mask count) =
-    (f : Refusal) × (read ≡ Read.Refused f) × (numberOf f ≡ number) × (maskIn f ≡ mask) × (countIn f ≡ count)
+    (f : Refusal) × (read ≡ Read.Refused f) × (refusalNumber f ≡ number) × (refusalMask f ≡ mask) × (refusalCount f ≡ count)
 
 -- an injection that is taken leaves this status word, link and PC
 pub record Leaves (s : Guest) (i : Injection) (status link pc : ℕ) : Type 0 where
@@ -41,16 +41,35 @@ pub record Leaves (s : Guest) (i : Injection) (status link pc : ℕ) : Type 0 wh
   pub new-link : getD (injected s i .state .regs) (injectionRow i .link) 0 ≡ link
   pub new-pc : injected s i .state .pc ≡ pc
 
+-- what a case gives of a state, and what it says of the state after the injection
+pub record UndefinedBefore : Type 0 where
+  pub status : ℕ
+  pub pc : ℕ
+  pub vbar : ℕ
+  pub sctlr : ℕ
+
+pub record UndefinedAfter : Type 0 where
+  pub status : ℕ
+  pub link : ℕ
+  pub pc : ℕ
+
+pub record AbortBefore : Type 0 where
+  pub status : ℕ
+  pub sctlr : ℕ
+
+pub record AbortAfter : Type 0 where
+  pub status : ℕ
+  pub pc : ℕ
+
 pub data Case : Type 0 where
   -- an edition, a word and the answer; a word and the answer in every edition
   reads-in : ℕ → ℕ → Answers → Case
   reads : ℕ → Answers → Case
-  -- an undefined instruction at PC: status, PC, VBAR and SCTLR; then the new status, link and PC
-  undefined-at : ℕ → ℕ → ℕ → ℕ → ℕ → ℕ → ℕ → Case
-  -- a data abort: status and SCTLR; then the new status and PC
-  data-abort : ℕ → ℕ → ℕ → ℕ → Case
-  -- a data abort: status, SCTLR and PC; then the link
-  data-abort-link : ℕ → ℕ → ℕ → ℕ → Case
+  -- an undefined instruction at PC
+  undefined-at : UndefinedBefore → UndefinedAfter → Case
+  -- a data abort; and with PC, the link
+  data-abort : AbortBefore → AbortAfter → Case
+  data-abort-link : AbortBefore → ℕ → ℕ → Case
 
 -- a state's 31 registers, whatever they hold, and no feature of C-15
 pub record Whole (s : Guest) : Type 0 where
@@ -65,15 +84,16 @@ pub record Passing (s : Guest) (a : Access) : Type 0 where
   pub address : addressFits (DataAbort a) ≡ true
 
 abbrev pub Holds : Case → Type 0
-Holds (reads-in e w answers) = AnswersAs (readOf e w) answers
-Holds (reads w answers) = (e : ℕ) → e < editions → AnswersAs (readOf e w) answers
-Holds (undefined-at status pc vbar sctlr status′ link pc′) =
-    (s : Guest) → Whole s → s .status ≡ status → s .pc ≡ pc → s .vbar ≡ vbar → s .sctlr ≡ sctlr → Leaves s UndefinedAt status′ link pc′
-Holds (data-abort status sctlr status′ pc′) =
-    (s : Guest) (a : Access) → Passing s a → s .status ≡ status → s .sctlr ≡ sctlr
-    → Leaves s (DataAbort a) status′ (linkOf (s .pc) (pos 8)) pc′
-Holds (data-abort-link status sctlr pc link) =
-    (s : Guest) (a : Access) → Passing s a → s .status ≡ status → s .sctlr ≡ sctlr → s .pc ≡ pc
+Holds (reads-in e w answers) = AnswersAs (readOf e (record { 0 = w })) answers
+Holds (reads w answers) = (e : ℕ) → e < editions → AnswersAs (readOf e (record { 0 = w })) answers
+Holds (undefined-at before after) =
+    (s : Guest) → Whole s → s .status ≡ before .status → s .pc ≡ before .pc → s .vbar ≡ before .vbar → s .sctlr ≡ before .sctlr
+    → Leaves s UndefinedAt (after .status) (after .link) (after .pc)
+Holds (data-abort before after) =
+    (s : Guest) (a : Access) → Passing s a → s .status ≡ before .status → s .sctlr ≡ before .sctlr
+    → Leaves s (DataAbort a) (after .status) (linkOf (s .pc) (pos 8)) (after .pc)
+Holds (data-abort-link before pc link) =
+    (s : Guest) (a : Access) → Passing s a → s .status ≡ before .status → s .sctlr ≡ before .sctlr → s .pc ≡ pc
     → getD (injected s (DataAbort a) .state .regs) (injectionRow (DataAbort a) .link) 0 ≡ link
 
 -- the one statement of a list of cases

@@ -1,7 +1,7 @@
--- The cases that document 01 marks with a star, in its order.
+-- The cases that document 01 marks with a star ('Cases from both sides of the line'), in its order.
 use mathlib.Core.Bool.{true, false}
 use mathlib.Core.List.{List, [], _∷_}
-use Rattle.syndrome.specs.declared.record.Record.{Record}
+use Rattle.record.specs.declared.kinds.Record.{Record}
 use Rattle.cases.specs.Case.{Case, record-read, taken, refused, reads-in, reads, undefined-at, data-abort, data-abort-link}
 
 -- a word store of register 3 that missed in the level 1 table
@@ -33,5 +33,7 @@ starred =
     ∷ reads 0x93830045 (record-read store-of-3) ∷ reads 0x91830005 taken ∷ reads 0x90000005 (refused 4 0 0) ∷ reads 0x93830085 (refused 5 0 0)
     ∷ reads-in 1 0x92000018 (refused 6 85 4) ∷ reads-in 7 0x9200001B (refused 6 68 2) ∷ reads-in 3 0x92000031 (refused 6 240 4)
     ∷ reads-in 0 0x92001010 (refused 6 170 4) ∷ reads 0x92000810 (refused 5 0 0) ∷ reads-in 1 0x93830014 (refused 6 85 4)
-    ∷ undefined-at 0x10 0x8000 0x1000 0 0x9B 0x8004 0x1004 ∷ undefined-at 0x30 0x8000 0x1000 0 0x9B 0x8002 0x1004
-    ∷ data-abort 0x10 0x42002000 0x3B7 0xFFFF0010 ∷ data-abort-link 0x10 0x42002000 0xFFFFFFFC 4 ∷ []
+    ∷ undefined-at record { status = 0x10; pc = 0x8000; vbar = 0x1000; sctlr = 0 } record { status = 0x9B; link = 0x8004; pc = 0x1004 }
+    ∷ undefined-at record { status = 0x30; pc = 0x8000; vbar = 0x1000; sctlr = 0 } record { status = 0x9B; link = 0x8002; pc = 0x1004 }
+    ∷ data-abort record { status = 0x10; sctlr = 0x42002000 } record { status = 0x3B7; pc = 0xFFFF0010 }
+    ∷ data-abort-link record { status = 0x10; sctlr = 0x42002000 } 0xFFFFFFFC 4 ∷ []

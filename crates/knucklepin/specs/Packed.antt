@@ -1,20 +1,22 @@
 -- The answers of the reader and the writer as single numbers.
 use Prim.Native.Nat.{ℕ, _+_, _-_, _*_, _^_}
-use Rattle.edition.specs.Judge.{numberOf, maskIn, countIn}
+use Rattle.edition.specs.Judge.{refusalNumber, refusalMask, refusalCount}
 use Rattle.edition.specs.declared.Refusal.{Refusal}
-use Rattle.syndrome.specs.Answer.{numberRead, maskRead, countRead, readOf, writeOf}
+use Rattle.syndrome.specs.Numbers.{numberRead, maskRead, countRead}
+use Rattle.syndrome.specs.Reading.{readOf}
+use Rattle.syndrome.specs.Writing.{writeOf}
 use Rattle.syndrome.specs.declared.answer.Read.{Read}
 use Rattle.syndrome.specs.declared.answer.Written.{Written}
 
 -- a refusal's number, from bit 8 its mask, from bit 24 its number of ones
 abbrev pub packedRefusal : Refusal → ℕ
-packedRefusal f = numberOf f + maskIn f * 2 ^ 8 + countIn f * 2 ^ 24
+packedRefusal f = refusalNumber f + refusalMask f * 2 ^ 8 + refusalCount f * 2 ^ 24
 
 abbrev pub packedAnswer : Read → ℕ
 packedAnswer a = numberRead a + maskRead a * 2 ^ 8 + countRead a * 2 ^ 24
 
 abbrev pub packedRead : ℕ → ℕ → ℕ
-packedRead e w = packedAnswer (readOf e w)
+packedRead e w = packedAnswer (readOf e (record { 0 = w }))
 
 -- the word that a record is written to, or all ones
 abbrev pub wordOr : Written → ℕ
@@ -26,4 +28,4 @@ rewrittenFrom writer (Read.Taken r) = wordOr (writeOf writer r)
 rewrittenFrom writer (Read.Refused f) = 2 ^ 64 - 1
 
 abbrev pub rewritten : ℕ → ℕ → ℕ → ℕ
-rewritten reader writer w = rewrittenFrom writer (readOf reader w)
+rewritten reader writer w = rewrittenFrom writer (readOf reader (record { 0 = w }))

@@ -2,7 +2,7 @@
 ghost use mathlib.Core.Path.{_≡_};
 ghost use Rattle.knucklepin.specs.Packed.{packedRefusal, packedRead, rewritten};
 use edition::Refusal;
-use syndrome::Esr;
+use record::Esr;
 use syndrome::Read;
 use syndrome::Written;
 

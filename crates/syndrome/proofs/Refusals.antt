@@ -3,33 +3,29 @@
 -- Assumes nothing.
 use mathlib.Core.Path.{_≡_, refl, _∙_, sym, ap, subst}
 use mathlib.Core.Bool.{Bool, true, false}
-use mathlib.Core.List.{[], _∷_}
 use mathlib.Core.Logic.{_↔_, _⊎_, inl, inr}
 use Prim.Native.Nat.{ℕ, _≤_, _<_}
 use lib.Dec.{lit≤}
 use Rattle.bits.specs.Field.{bitOf}
-use Rattle.bits.specs.Decide.{needs, FirstFails, FailsWith}
+use Rattle.bits.specs.Decide.{FirstFails, FailsWith}
 use Rattle.bits.proofs.Arms.{absurd-answer}
 use Rattle.bits.proofs.Deciding.{decided-exactly, decided-with-exactly, answer-is}
-use Rattle.edition.specs.Feature.{editions, isEdition}
+use Rattle.edition.specs.Feature.{editions}
 use Rattle.edition.specs.Mask.{maskOf, countBelow}
 use Rattle.edition.specs.declared.Refusal.the-variants.{OtherEditions}
 use Rattle.edition.proofs.Masks.{mask-bit, mask-bit-above}
 use Rattle.form.specs.Answer.{Answer, given, refused}
-use Rattle.form.specs.Call.{someHas}
-use Rattle.form.specs.Form as Form
 use Rattle.form.proofs.Calls.{OthersHave, six-exactly}
 use Rattle.form.proofs.Forms.{own-reading, own-writing}
-use Rattle.record.specs.Class.{headOf}
 use Rattle.record.specs.Fields.{recordWord}
 use Rattle.record.specs.Split.{recordAt}
 use Rattle.record.specs.declared.kinds.Esr.{Esr}
 use Rattle.record.specs.declared.kinds.Record.{Record}
-use Rattle.rule.specs.Has.{has, recordIl, editionsOf}
+use Rattle.rule.specs.Has.{has, editionsOf}
 use Rattle.syndrome.specs.Numbers.{numberRead, numberWritten}
-use Rattle.syndrome.specs.Tests.{upperClear, classKnown, wordIl, readTests, writeTests}
-use Rattle.syndrome.specs.Reading.{hasWord, asRead, readOf}
-use Rattle.syndrome.specs.Writing.{asWritten, writeOf}
+use Rattle.syndrome.specs.Tests.{readTests, writeTests}
+use Rattle.syndrome.specs.Reading.{hasWord, asRead, readOf, readList}
+use Rattle.syndrome.specs.Writing.{asWritten, writeOf, writeList}
 use Rattle.syndrome.specs.declared.answer.Read.{Read}
 use Rattle.syndrome.specs.declared.answer.Written.{Written}
 use Rattle.syndrome.proofs.Instance.{sound}
@@ -39,31 +35,16 @@ module _ (e : ℕ) (esr : Esr) where
   -- READING, 0 to 6, each exactly: at a number the type on the right is the row of tests up to that number's
   pub read-refused-exactly : (k : ℕ)
       → (numberRead (readOf e esr) ≡ k)
-      ↔ FirstFails k
-      (needs (isEdition e) 1
-      ∷ needs (upperClear (esr .0)) 2
-      ∷ needs (classKnown (esr .0)) 3
-      ∷ needs (wordIl (esr .0)) 4
-      ∷ needs (someHas editions (λ x. hasWord x (esr .0))) 5
-      ∷ needs (hasWord e (esr .0)) 6
-      ∷ [])
+      ↔ FirstFails k (readList e esr)
   read-refused-exactly k =
-      let law = decided-exactly _ tt k in
+      let law = decided-exactly (readList e esr) tt k in
       (λ t. law .0 (sym (reads e esr refl .number) ∙ t), λ f. reads e esr refl .number ∙ law .1 f)
 
   -- reading's numbers are 0 to 6
   pub read-numbers : numberRead (readOf e esr) ≤ 6
   read-numbers =
       subst (λ (k : ℕ). k ≤ 6) (sym (reads e esr refl .number))
-      (answer-is (λ k. k ≤ 6)
-      (needs (isEdition e) 1
-      ∷ needs (upperClear (esr .0)) 2
-      ∷ needs (classKnown (esr .0)) 3
-      ∷ needs (wordIl (esr .0)) 4
-      ∷ needs (someHas editions (λ x. hasWord x (esr .0))) 5
-      ∷ needs (hasWord e (esr .0)) 6
-      ∷ [])
-      0 (lit≤ tt, (lit≤ tt, (lit≤ tt, (lit≤ tt, (lit≤ tt, (lit≤ tt, tt)))))) (lit≤ tt))
+      (answer-is (λ k. k ≤ 6) (readList e esr) 0 (lit≤ tt, (lit≤ tt, (lit≤ tt, (lit≤ tt, (lit≤ tt, (lit≤ tt, tt)))))) (lit≤ tt))
 
   pub read-six-exactly : (mask count : ℕ)
       → (readOf e esr ≡ Read.Refused (OtherEditions mask count))
@@ -85,29 +66,16 @@ module _ (e : ℕ) (r : Record) where
   -- WRITING, each number exactly: a class that the kind lacks and a record that no edition has are both 5
   pub write-refused-exactly : (k : ℕ)
       → (numberWritten (writeOf e r) ≡ k)
-      ↔ FailsWith k
-      (needs (isEdition e) 1
-      ∷ needs (headOf r .own) 5
-      ∷ needs (recordIl r) 4
-      ∷ needs (someHas editions (λ x. has x r)) 5
-      ∷ needs (has e r) 6
-      ∷ [])
+      ↔ FailsWith k (writeList e r)
   write-refused-exactly k =
-      let law = decided-with-exactly _ k in
+      let law = decided-with-exactly (writeList e r) k in
       (λ t. law .0 (sym (writes e r refl .number) ∙ t), λ f. writes e r refl .number ∙ law .1 f)
 
   -- writing's numbers are 0, 1, 4, 5 and 6
   pub write-numbers : OneOfWriting (numberWritten (writeOf e r))
   write-numbers =
       subst OneOfWriting (sym (writes e r refl .number))
-      (answer-is OneOfWriting
-      (needs (isEdition e) 1
-      ∷ needs (headOf r .own) 5
-      ∷ needs (recordIl r) 4
-      ∷ needs (someHas editions (λ x. has x r)) 5
-      ∷ needs (has e r) 6
-      ∷ [])
-      0
+      (answer-is OneOfWriting (writeList e r) 0
       (inr (inl refl), (inr (inr (inr (inl refl))), (inr (inr (inl refl)), (inr (inr (inr (inl refl))), (inr (inr (inr (inr refl))), tt)))))
       (inl refl))
 

@@ -5,15 +5,14 @@ use mathlib.Core.List.{[], _∷_}
 use Rattle.bits.specs.Decide.{needs, decide}
 use Rattle.edition.specs.Feature.{editions, isEdition}
 use Rattle.edition.specs.Mask.{countBelow}
-use Rattle.form.specs.Call.{someHas, sixOnly}
+use Rattle.form.specs.Call.{sixOnly}
 use Rattle.form.specs.Form as Form
-use Rattle.record.specs.Class.{headOf}
 use Rattle.record.specs.declared.kinds.Esr.{Esr}
 use Rattle.record.specs.declared.kinds.Record.{Record}
-use Rattle.rule.specs.Has.{has, recordIl, editionsOf}
+use Rattle.rule.specs.Has.{has, editionsOf}
 use Rattle.syndrome.specs.Numbers.{numberWritten, numberCarried, maskCarried, countCarried}
 use Rattle.syndrome.specs.Reading.{asRead, readOf, readNumber}
-use Rattle.syndrome.specs.Writing.{writeOf}
+use Rattle.syndrome.specs.Writing.{writeOf, writeList}
 use Rattle.syndrome.specs.declared.answer.Read.{Read}
 use Rattle.syndrome.specs.declared.answer.Written.{Written}
 use Rattle.syndrome.specs.declared.answer.Carried.{Carried}
@@ -37,17 +36,7 @@ carriedOf writer reader r = carriedFrom reader r (writeOf writer r)
 
 -- the number: the writer's tests, then the reader's
 abbrev pub carryNumber : ℕ → ℕ → Record → ℕ
-carryNumber writer reader r =
-    decide
-    (needs (isEdition writer) 1
-    ∷ needs (headOf r .own) 5
-    ∷ needs (recordIl r) 4
-    ∷ needs (someHas editions (λ x. has x r)) 5
-    ∷ needs (has writer r) 6
-    ∷ needs (isEdition reader) 1
-    ∷ needs (has reader r) 6
-    ∷ [])
-    0
+carryNumber writer reader r = decide (writeList writer r) (decide (needs (isEdition reader) 1 ∷ needs (has reader r) 6 ∷ []) 0)
 
 pub record Carrying (writer reader : ℕ) (r : Record) (c : Carried) : Type 0 where
   pub answer : c ≡ carriedOf writer reader r

@@ -2,8 +2,8 @@
 use Prim.Native.Nat.{ℕ}
 use mathlib.Core.Path.{_≡_}
 use mathlib.Core.Bool.{Bool}
-use mathlib.Core.List.{[], _∷_}
-use Rattle.bits.specs.Decide.{needs, decide}
+use mathlib.Core.List.{List, [], _∷_}
+use Rattle.bits.specs.Decide.{Test, needs, decide}
 use Rattle.edition.specs.Feature.{editions, isEdition}
 use Rattle.edition.specs.Mask.{maskOf, countBelow}
 use Rattle.form.specs.Answer.{Answer, given, refused}
@@ -29,18 +29,20 @@ asRead (refused refusal) = Read.Refused refusal
 unfoldable pub readOf : ℕ → Esr → Read
 readOf e esr = asRead (Form.readAs editions recordWord has recordAt readTests e (esr .0))
 
--- the number: that of the first test that fails
-abbrev pub readNumber : ℕ → Esr → ℕ
-readNumber e esr =
-    decide
-    (needs (isEdition e) 1
+-- the tests, each with its number
+abbrev pub readList : ℕ → Esr → List (Test ℕ)
+readList e esr =
+    needs (isEdition e) 1
     ∷ needs (upperClear (esr .0)) 2
     ∷ needs (classKnown (esr .0)) 3
     ∷ needs (wordIl (esr .0)) 4
     ∷ needs (someHas editions (λ x. hasWord x (esr .0))) 5
     ∷ needs (hasWord e (esr .0)) 6
-    ∷ [])
-    0
+    ∷ []
+
+-- the number: that of the first test that fails
+abbrev pub readNumber : ℕ → Esr → ℕ
+readNumber e esr = decide (readList e esr) 0
 
 -- THE PROMISE of reading: the answer; its number; and with 6 alone the mask of the editions that have the word, and how many they are
 pub record Reading (e : ℕ) (esr : Esr) (a : Read) : Type 0 where

@@ -1,54 +1,62 @@
--- What reading a whole trap answers, for every input, and the refusals by their numbers.
+-- Reading a whole trap (01, 'Numbers a call may answer'): 1 to 6 as the syndrome reader gives them, then 7, then 8, or the trap.
 use Prim.Native.Nat.{ℕ}
-use mathlib.Core.Bool.{cond, not, _&&_}
-use Rattle.edition.specs.Judge as Judge
-use Rattle.syndrome.specs.Answer.{readOf}
-use Rattle.syndrome.specs.declared.record.Record.{Record}
+use mathlib.Core.Path.{_≡_}
+use mathlib.Core.Bool.{Bool}
+use mathlib.Core.List.{List, [], _∷_, _++_}
+use Rattle.bits.specs.Decide.{Test, needs, decide}
+use Rattle.edition.specs.Feature.{editions}
+use Rattle.edition.specs.Mask.{maskOf, countBelow}
+use Rattle.form.specs.Call.{sixOnly}
+use Rattle.iss.specs.Rule.{implies}
+use Rattle.record.specs.Addresses.{addressesOf}
+use Rattle.record.specs.Split.{recordAt}
+use Rattle.record.specs.declared.kinds.Addresses.{Addresses}
+use Rattle.record.specs.declared.kinds.Esr.{Esr}
+use Rattle.record.specs.declared.kinds.Record.{Record}
+use Rattle.address.specs.Known.{farCounts, hpfarCounts}
+use Rattle.address.specs.Page.{hpfarRule, farRule}
+use Rattle.address.specs.declared.Far.{Far}
+use Rattle.address.specs.declared.Hpfar.{Hpfar}
+use Rattle.syndrome.specs.Reading.{hasWord, readOf, readList}
 use Rattle.syndrome.specs.declared.answer.Read.{Read}
-use Rattle.trap.specs.Known.{farCounts, hpfarCounts}
-use Rattle.trap.specs.Page.{hpfarRule, farRule}
+use Rattle.trap.specs.Numbers.{numberAnswer, maskAnswer, countAnswer}
 use Rattle.trap.specs.Trap.{trapOf}
 use Rattle.trap.specs.declared.TrapRefusal.{TrapRefusal}
 use Rattle.trap.specs.declared.Answer.{Answer}
 
-abbrev pub numberOf : TrapRefusal → ℕ
-numberOf (TrapRefusal.Syndrome refusal) = Judge.numberOf refusal
-numberOf TrapRefusal.Hpfar = 7
-numberOf TrapRefusal.Far = 8
+-- 7: no bit outside HPFAR's field is set, where HPFAR counts
+abbrev pub hpfarRight : ℕ → Addresses → Hpfar → Bool
+hpfarRight e a hpfar = implies (hpfarCounts a) (hpfarRule e hpfar)
 
-abbrev pub maskIn : TrapRefusal → ℕ
-maskIn (TrapRefusal.Syndrome refusal) = Judge.maskIn refusal
-maskIn TrapRefusal.Hpfar = 0
-maskIn TrapRefusal.Far = 0
-
-abbrev pub countIn : TrapRefusal → ℕ
-countIn (TrapRefusal.Syndrome refusal) = Judge.countIn refusal
-countIn TrapRefusal.Hpfar = 0
-countIn TrapRefusal.Far = 0
-
--- number, mask and number of ones of each answer: 0, 0, 0 where a trap is shown, else the refusal's
-abbrev pub numberAnswer : Answer → ℕ
-numberAnswer (Answer.Shown trap) = 0
-numberAnswer (Answer.Refused refusal) = numberOf refusal
-
-abbrev pub maskAnswer : Answer → ℕ
-maskAnswer (Answer.Shown trap) = 0
-maskAnswer (Answer.Refused refusal) = maskIn refusal
-
-abbrev pub countAnswer : Answer → ℕ
-countAnswer (Answer.Shown trap) = 0
-countAnswer (Answer.Refused refusal) = countIn refusal
+-- 8: bits 63:32 of FAR are zero, where FAR counts
+abbrev pub farRight : Addresses → Far → Bool
+farRight a far = implies (farCounts a) (farRule far)
 
 -- the syndrome is taken: 7, then 8, then the trap
-unfoldable pub answerRecord : ℕ → Record → ℕ → ℕ → Answer
+unfoldable pub answerRecord : ℕ → Record → Far → Hpfar → Answer
 answerRecord e r far hpfar =
-    cond (hpfarCounts r && not (hpfarRule e hpfar)) (Answer.Refused TrapRefusal.Hpfar)
-    (cond (farCounts r && not (farRule far)) (Answer.Refused TrapRefusal.Far) (Answer.Shown (trapOf e r far hpfar)))
+    decide
+    (needs (hpfarRight e (addressesOf r) hpfar) (Answer.Refused TrapRefusal.Hpfar)
+    ∷ needs (farRight (addressesOf r) far) (Answer.Refused TrapRefusal.Far)
+    ∷ [])
+    (Answer.Shown (trapOf r far hpfar))
 
-abbrev pub answerRead : ℕ → Read → ℕ → ℕ → Answer
+abbrev pub answerRead : ℕ → Read → Far → Hpfar → Answer
 answerRead e (Read.Taken r) far hpfar = answerRecord e r far hpfar
 answerRead e (Read.Refused refusal) far hpfar = Answer.Refused (TrapRefusal.Syndrome refusal)
 
--- reading a whole trap: 1 to 6 as the syndrome reader gives them, then 7, then 8
-unfoldable pub answerOf : ℕ → ℕ → ℕ → ℕ → Answer
+unfoldable pub answerOf : ℕ → Esr → Far → Hpfar → Answer
 answerOf e esr far hpfar = answerRead e (readOf e esr) far hpfar
+
+-- the tests, each with its number: the syndrome's, then those of the registers that count by the record at its bits
+abbrev pub trapList : ℕ → Esr → Far → Hpfar → List (Test ℕ)
+trapList e esr far hpfar =
+    readList e esr
+    ++ (needs (hpfarRight e (addressesOf (recordAt (esr .0))) hpfar) 7 ∷ needs (farRight (addressesOf (recordAt (esr .0))) far) 8 ∷ [])
+
+-- THE PROMISE of reading a trap: the answer; its number; and with 6 alone the mask of the editions that have the word, and how many they are
+pub record TrapReading (e : ℕ) (esr : Esr) (far : Far) (hpfar : Hpfar) (a : Answer) : Type 0 where
+  pub answer : a ≡ answerOf e esr far hpfar
+  pub number : numberAnswer a ≡ decide (trapList e esr far hpfar) 0
+  pub mask : maskAnswer a ≡ sixOnly (numberAnswer a) (maskOf (λ x. hasWord x (esr .0)))
+  pub count : countAnswer a ≡ sixOnly (numberAnswer a) (countBelow editions (λ x. hasWord x (esr .0)))

@@ -1,5 +1,4 @@
-pub mod Known
-pub mod Page
+pub mod Numbers
 pub mod Trap
 pub mod Answer
-pub mod Shown
+pub mod Both

@@ -7,12 +7,12 @@ use Prim.Native.Char.{code}
 use native.Mathlib.Omega.{arith}
 use lib.Dec.{eqb}
 use lib.ListN.{length, length-append}
-use Rattle.edition.specs.Judge.{numberOf, maskIn, countIn}
+use Rattle.edition.specs.Judge.{refusalNumber, refusalMask, refusalCount}
 use Rattle.edition.specs.declared.Refusal.{Refusal}
 use Rattle.line.specs.Feed.{started, fed, finished}
 use Rattle.line.specs.declared.Line.{Line}
 use Rattle.line.specs.declared.State.{State}
-use Rattle.syndrome.specs.Answer.{readOf}
+use Rattle.syndrome.specs.Reading.{readOf}
 use Rattle.syndrome.specs.declared.answer.Read.{Read}
 use Rattle.text.proofs.Numerals.{decimal-length}
 use Rattle.trapread.specs.Answer.{refusedText, readText, answerText}
@@ -20,9 +20,9 @@ use Rattle.trapread.specs.Lines.{answersIn}
 
 refused-length : (refusal : Refusal) → length (refusedText refusal) ≤ 128
 refused-length refusal =
-    let n = decimal-length (numberOf refusal) in
-    let m = decimal-length (maskIn refusal) in
-    let c = decimal-length (countIn refusal) in
+    let n = decimal-length (refusalNumber refusal) in
+    let m = decimal-length (refusalMask refusal) in
+    let c = decimal-length (refusalCount refusal) in
     simp length-append (omega arith)
 
 read-length : (answer : Read) → length (readText answer) ≤ 128
@@ -30,7 +30,7 @@ read-length (Read.Taken r) = omega arith
 read-length (Read.Refused refusal) = refused-length refusal
 
 pub answer-length : (line : Line) → length (answerText line) ≤ 128
-answer-length (Line.Question edition word) = read-length (readOf edition word)
+answer-length (Line.Question edition word) = read-length (readOf edition (record { 0 = word }))
 answer-length Line.NoLine = omega arith
 
 pub chunk-length : (s : State) (chunk : List ℕ) → length (answersIn s chunk) ≤ 128 * length chunk

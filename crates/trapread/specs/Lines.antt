@@ -2,6 +2,7 @@
 use Prim.Native.Nat.{ℕ}
 use Prim.Native.Char.{code}
 use mathlib.Core.Bool.{cond}
+use mathlib.Core.Path.{_≡_}
 use mathlib.Core.List.{List, [], _∷_, _++_}
 use lib.Dec.{eqb}
 use Rattle.line.specs.Feed.{started, fed, finished}
@@ -16,6 +17,12 @@ lineAfter = stateAfter started fed
 
 abbrev pub answersIn : State → List ℕ → List ℕ
 answersIn = chunkText started fed (λ s. answerText (finished s))
+
+-- some chunk was read after the first bytes of a line: it leaves the line `after`, and the text has its answers
+pub record Answered (before after : State) (text : List ℕ) : Type 0 where
+  pub chunk : List ℕ
+  pub line : after ≡ lineAfter before chunk
+  pub answers : text ≡ answersIn before chunk
 
 -- a last line without a newline is answered too, where it is not empty
 abbrev pub lastText : State → List ℕ

@@ -8,13 +8,13 @@ ghost use lib.ListN.{length, take};
 ghost use Rattle.io.specs.Counts.{Counts};
 ghost use Rattle.text.specs.Append.{Appends};
 ghost use Rattle.trapread.specs.Answer.{fieldText, refusedText, answerText};
-ghost use Rattle.trapread.specs.Lines.{lineAfter, answersIn};
+ghost use Rattle.trapread.specs.Lines.{lineAfter, answersIn, lastText, Answered};
 use edition::Refusal;
 use libc::STDIN_FILENO;
 use libc::STDOUT_FILENO;
 use line::Line;
 use line::State;
-use syndrome::Esr;
+use record::Esr;
 use syndrome::Read;
 
 // Appends a space and a number.
@@ -78,37 +78,49 @@ fn answers(out: &mut [u8], chunk: &[u8], before: State) -> Progress
     Progress { line, end }
 }
 
-// The line that is left, and whether the input may go on.
+// What a chunk of the input gave: the line that it leaves unended, the end of the answers to those that it ends, and whether it had a byte.
 struct Turn {
     line: State,
+    end: usize,
     more: bool,
 }
 
-// Reads a chunk and writes its answers.
+// Reads a chunk and puts its answers into a buffer. No contract can say which bytes were read.
 fn next_chunk(out: &mut [u8], line: State) -> Turn
     requires { ⌜ 128 * 512 ≤ length (now out) ⌝ }
+    ensures { λ t. ⌜ Answered line (t .line) (take (t .end) (now (out .exit))) ⌝ }
+    ensures { λ t. ⌜ Counts (t .end) (now (out .exit)) ⌝ }
 {
     let mut chunk = [0u8; 512];
     let got = libc::read(STDIN_FILENO, &mut chunk);
     let n = io::count(got, &chunk);
-    if n == 0 {
-        return Turn { line, more: false };
-    }
     let p = answers(out, &chunk[..n], line);
     let end = p.end;
     let rest = p.line;
     Turn {
         line: rest,
-        more: io::write_all(STDOUT_FILENO, &out[..end]),
+        end,
+        more: n != 0,
     }
 }
 
-// A last line may lack its newline, but what follows the last newline is no line where it is empty.
-fn last(out: &mut [u8], line: State) {
-    if line.count != 0 {
-        let end = answer(out, 0, line::finish(line));
-        io::write_all(STDOUT_FILENO, &out[..end]);
+// Appends the answer to the last line to an empty text. It may lack its newline, but what follows the last newline is no line where it is
+// empty.
+fn last(out: &mut [u8], line: State) -> usize
+    ensures { λ end. ⌜ Appends (lastText line) (now (out .entry)) 0 (now (out .exit)) end ⌝ }
+    ensures { λ end. ⌜ Counts end (now (out .exit)) ⌝ }
+{
+    if line.count == 0 {
+        return 0;
     }
+    answer(out, 0, line::finish(line))
+}
+
+// Writes the text at the start of a buffer. No contract can say what was written.
+fn write(out: &mut [u8], end: usize) -> bool
+    requires { ⌜ Counts end (now out) ⌝ }
+{
+    io::write_all(STDOUT_FILENO, &out[..end])
 }
 
 // A proved loop has to end, and nothing says that the input does: it counts down from a number that no run uses up.
@@ -120,10 +132,11 @@ fn main() {
     while turns > 0 {
         let t = next_chunk(out, line);
         line = t.line;
-        if !t.more {
+        if !(write(out, t.end) & t.more) {
             break;
         }
         turns -= 1;
     }
-    last(out, line);
+    let end = last(out, line);
+    write(out, end);
 }

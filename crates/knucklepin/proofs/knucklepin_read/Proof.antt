@@ -2,7 +2,7 @@
 -- Assumes nothing.
 use borrow.Author.Needs.{needs}
 use mathlib.Core.Path.{refl, _∙_, sym}
-use Rattle.syndrome.proofs.Arm.{at-arm}
+use Rattle.bits.proofs.Arms.{at-arm}
 use Rattle.knucklepin.specs.Packed.{packedAnswer}
 use Rattle.knucklepin.proofs.knucklepin_read.Statement.{statement}
 use Rattle.knucklepin.proofs.knucklepin_read.Tie as tie
@@ -20,10 +20,10 @@ packed-requires : tie.Need-packed-requires
 packed-requires c κs = search needs
 
 returns : tie.Need-returns
-returns c = at-arm packedAnswer refl (sym (c .before .before .read .ensures) ∙ c .enum-told .given .1)
+returns c = at-arm packedAnswer refl (sym (c .before .before .read .ensures .answer) ∙ c .enum-told .given .1)
 
 returns-2 : tie.Need-returns-2
-returns-2 c = at-arm packedAnswer (c .packed .ensures) (sym (c .before .before .before .before .read .ensures) ∙ c .before .before .refusal .given .1)
+returns-2 c = at-arm packedAnswer (c .packed .ensures) (sym (c .before .before .before .before .read .ensures .answer) ∙ c .before .before .refusal .given .1)
 
 pub knucklepin-read-spec : {M : Type 1} → statement M
 knucklepin-read-spec =

@@ -2,7 +2,7 @@
 -- Assumes nothing.
 use borrow.Author.Needs.{needs}
 use mathlib.Core.Path.{refl, _∙_, sym}
-use Rattle.syndrome.proofs.Arm.{at-arm}
+use Rattle.bits.proofs.Arms.{at-arm}
 use Rattle.knucklepin.specs.Packed.{wordOr, rewrittenFrom}
 use Rattle.knucklepin.proofs.knucklepin_rewrite.Statement.{statement}
 use Rattle.knucklepin.proofs.knucklepin_rewrite.Tie as tie
@@ -29,19 +29,19 @@ returns : tie.Need-returns
 returns c =
     let a = c .before .before .before .before .before .before .before .before .args in
     at-arm (rewrittenFrom (a .writer))
-    (at-arm wordOr refl (sym (c .before .before .before .write .ensures) ∙ c .before .esr .given .1))
-    (sym (c .before .before .before .before .before .before .before .read .ensures) ∙ c .before .before .before .before .before .r .given .1)
+    (at-arm wordOr refl (sym (c .before .before .before .write .ensures .answer) ∙ c .before .esr .given .1))
+    (sym (c .before .before .before .before .before .before .before .read .ensures .answer) ∙ c .before .before .before .before .before .r .given .1)
 
 returns-2 : tie.Need-returns-2
 returns-2 c =
     let a = c .before .before .before .before .before .before .before .args in
-    at-arm (rewrittenFrom (a .writer)) (at-arm wordOr refl (sym (c .before .before .write .ensures) ∙ c .enum-told .given .1))
-    (sym (c .before .before .before .before .before .before .read .ensures) ∙ c .before .before .before .before .r .given .1)
+    at-arm (rewrittenFrom (a .writer)) (at-arm wordOr refl (sym (c .before .before .write .ensures .answer) ∙ c .enum-told .given .1))
+    (sym (c .before .before .before .before .before .before .read .ensures .answer) ∙ c .before .before .before .before .r .given .1)
 
 returns-3 : tie.Need-returns-3
 returns-3 c =
     let a = c .before .before .before .args in
-    at-arm (rewrittenFrom (a .writer)) refl (sym (c .before .before .read .ensures) ∙ c .enum-told2 .given .1)
+    at-arm (rewrittenFrom (a .writer)) refl (sym (c .before .before .read .ensures .answer) ∙ c .enum-told2 .given .1)
 
 pub knucklepin-rewrite-spec : {M : Type 1} → statement M
 knucklepin-rewrite-spec =

@@ -1,22 +1,26 @@
--- `trap::read_both` meets its contract: where both editions show a trap, `same-trap` says that it is one.
+-- `trap::read_both` meets its contract: where both editions show the trap, it is the same.
 -- Assumes nothing.
 use borrow.Author.Needs.{needs}
 use mathlib.Core.Path.{_≡_, _∙_, sym, ap, ap₂}
 use Prim.Native.Nat.{ℕ}
+use Rattle.record.specs.declared.kinds.Esr.{Esr}
+use Rattle.address.specs.declared.Far.{Far}
+use Rattle.address.specs.declared.Hpfar.{Hpfar}
 use Rattle.trap.specs.Answer.{answerOf}
-use Rattle.trap.specs.Shown.{bothFrom, bothOf}
+use Rattle.trap.specs.Both.{bothFrom, bothOf}
 use Rattle.trap.specs.declared.Trap.{Trap}
 use Rattle.trap.specs.declared.Answer.{Answer}
 use Rattle.trap.specs.declared.Both.{Both}
-use Rattle.trap.proofs.Agreement.{same-trap}
+use Rattle.trap.proofs.Promises.{shows-both}
+use Rattle.trap.proofs.Shown.{same-trap}
 use Rattle.trap.proofs.read_both.Statement.{statement}
 use Rattle.trap.proofs.read_both.Tie as tie
 
-both-shown : (a b esr far hpfar : ℕ) (t s : Trap) → answerOf a esr far hpfar ≡ Answer.Shown t → answerOf b esr far hpfar ≡ Answer.Shown s
-    → Both.Shown t s ≡ bothOf a b esr far hpfar
+both-shown : (first second : ℕ) (esr : Esr) (far : Far) (hpfar : Hpfar) (t s : Trap) → answerOf first esr far hpfar ≡ Answer.Shown t
+    → answerOf second esr far hpfar ≡ Answer.Shown s → Both.Shown t s ≡ bothOf first second esr far hpfar
 unfolding bothOf
-both-shown a b esr far hpfar t s first second =
-    ap (Both.Shown t) (sym (same-trap a b far hpfar esr t s first second)) ∙ sym (ap₂ bothFrom first second)
+both-shown first second esr far hpfar t s one other =
+    ap (Both.Shown t) (sym (same-trap first second esr far hpfar t s one other)) ∙ sym (ap₂ bothFrom one other)
 
 read-requires : tie.Need-read-requires
 read-requires c κs = search needs
@@ -37,25 +41,26 @@ enum-known-refusal-2 : tie.Need-enum-known-refusal-2
 enum-known-refusal-2 c = search needs
 
 returns : tie.Need-returns
-unfolding bothOf
 returns c =
     let a = c .before .before .before .before .before .before .before .before .args in
-    let first = sym (c .before .before .before .before .before .before .before .read .ensures) ∙ c .before .before .before .before .before .trap .given .1 in
-    let second = sym (c .before .before .before .read2 .ensures) ∙ c .before .other .given .1 in
-    both-shown (a .first) (a .second) (a .esr .0) (a .far .0) (a .hpfar .0) _ _ first second
+    let first = sym (c .before .before .before .before .before .before .before .read .ensures .answer) ∙ c .before .before .before .before .before .trap .given .1 in
+    let second = sym (c .before .before .before .read2 .ensures .answer) ∙ c .before .other .given .1 in
+    shows-both (a .first) (a .second) (a .esr) (a .far) (a .hpfar) (both-shown (a .first) (a .second) (a .esr) (a .far) (a .hpfar) _ _ first second)
 
 returns-2 : tie.Need-returns-2
 unfolding bothOf
 returns-2 c =
-    let first = sym (c .before .before .before .before .before .before .before .read .ensures) ∙ c .before .before .before .before .before .trap .given .1 in
-    let second = sym (c .before .before .before .read2 .ensures) ∙ c .before .refusal .given .1 in
-    sym (ap₂ bothFrom first second)
+    let a = c .before .before .before .before .before .before .before .before .args in
+    let first = sym (c .before .before .before .before .before .before .before .read .ensures .answer) ∙ c .before .before .before .before .before .trap .given .1 in
+    let second = sym (c .before .before .before .read2 .ensures .answer) ∙ c .before .refusal .given .1 in
+    shows-both (a .first) (a .second) (a .esr) (a .far) (a .hpfar) (sym (ap₂ bothFrom first second))
 
 returns-3 : tie.Need-returns-3
 unfolding bothOf
 returns-3 c =
     let a = c .before .before .before .before .args in
-    sym (ap (λ (x : Answer). bothFrom x (answerOf (a .second) (a .esr .0) (a .far .0) (a .hpfar .0))) (sym (c .before .before .before .read .ensures) ∙ c .before .refusal2 .given .1))
+    shows-both (a .first) (a .second) (a .esr) (a .far) (a .hpfar)
+    (sym (ap (λ (x : Answer). bothFrom x (answerOf (a .second) (a .esr) (a .far) (a .hpfar))) (sym (c .before .before .before .read .ensures .answer) ∙ c .before .refusal2 .given .1)))
 
 pub read-both-spec : {M : Type 1} → statement M
 read-both-spec =

@@ -1,7 +1,7 @@
 -- `trapread::main` is safe and ends. The measure is the number of turns that are left, and the buffer keeps its length.
 -- Assumes nothing.
-use mathlib.Core.Path.{_≡_, sym, _∙_}
-use native.Mathlib.Omega.{arith}
+use borrow.Author.Needs.{needs}
+use mathlib.Core.Path.{_≡_}
 use lib.ListN.{length}
 use Rattle.trapread.proofs.main.Statement.{statement}
 use Rattle.trapread.proofs.main.Tie as tie
@@ -13,34 +13,40 @@ abbrev μ-loop : tie.MeasureT-loop
 μ-loop out₀ line₀ turns₀ out line turns = turns
 
 large-buffer-requires : tie.Need-large-buffer-requires Inv-loop μ-loop
-large-buffer-requires c κs = tt
+large-buffer-requires c κs = search needs
 
 slice-aggregate-out : tie.Need-slice-aggregate-out Inv-loop μ-loop
-slice-aggregate-out c = c .before .large-buffer .ensures
+slice-aggregate-out c = search needs
 
 start-requires : tie.Need-start-requires Inv-loop μ-loop
-start-requires c κs = tt
+start-requires c κs = search needs
 
 loop-holds : tie.Need-loop-holds Inv-loop μ-loop
-loop-holds c = sym (c .before .before .large-buffer .ensures)
+loop-holds c = search needs
 
 next-chunk-requires : tie.Need-next-chunk-requires Inv-loop μ-loop
-next-chunk-requires c κs = omega arith
+next-chunk-requires c κs = search needs
+
+write-requires : tie.Need-write-requires Inv-loop μ-loop
+write-requires c κs = search needs
 
 sub-turns : tie.Need-sub-turns Inv-loop μ-loop
-sub-turns c = omega arith
+sub-turns c = search needs
 
 loop-less : tie.Need-loop-less Inv-loop μ-loop
-loop-less c = omega arith
+loop-less c = search needs
 
 loop-again : tie.Need-loop-again Inv-loop μ-loop
-loop-again c = c .before .before .before .before .before .next-chunk .kept .0 ∙ c .before .before .before .before .before .before .before .before .loop .inv
+loop-again c = search needs
 
 last-requires : tie.Need-last-requires Inv-loop μ-loop
-last-requires c κs = tt
+last-requires c κs = search needs
+
+write-requires-2 : tie.Need-write-requires-2 Inv-loop μ-loop
+write-requires-2 c κs = search needs
 
 returns : tie.Need-returns Inv-loop μ-loop
-returns c = tt
+returns c = search needs
 
 pub main-spec : {M : Type 1} → statement M
 main-spec =
@@ -53,8 +59,10 @@ main-spec =
     start-requires
     loop-holds
     next-chunk-requires
+    write-requires
     sub-turns
     loop-less
     loop-again
     last-requires
+    write-requires-2
     returns)

@@ -1,0 +1,23 @@
+-- What FAR and HPFAR hold where they count (01, 'Addresses of an abort').
+use Prim.Native.Nat.{ℕ, _+_, _*_, _^_}
+use mathlib.Core.Bool.{Bool, cond, _&&_}
+use lib.Dec.{eqb}
+use Rattle.bits.specs.Field.{fieldOf}
+use Rattle.edition.specs.Feature.{lpa2}
+use Rattle.address.specs.declared.Far.{Far}
+use Rattle.address.specs.declared.Hpfar.{Hpfar}
+
+-- the page number is HPFAR 43:4 with LPA2, else 39:4
+abbrev pub pageTop : ℕ → ℕ
+pageTop e = cond (lpa2 e) 43 39
+
+-- other bits of HPFAR must be 0, and so must 63:32 of FAR
+abbrev pub hpfarRule : ℕ → Hpfar → Bool
+hpfarRule e hpfar = eqb (fieldOf (hpfar .0) 63 (pageTop e + 1)) 0 && eqb (fieldOf (hpfar .0) 3 0) 0
+
+abbrev pub farRule : Far → Bool
+farRule far = eqb (fieldOf (far .0) 63 32) 0
+
+-- a page is 4096 bytes
+abbrev pub pageAddress : Hpfar → ℕ
+pageAddress hpfar = fieldOf (hpfar .0) 43 4 * 2 ^ 12

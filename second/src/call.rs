@@ -1,0 +1,316 @@
+//! The rows: the calls of the proved code asked by a line of text, and what
+//! each answers.
+
+use crate::catalogue::Catalogue;
+use crate::form::{Form, Record};
+use crate::guest::{inject, Fault, Injection, State};
+use crate::long::LONG;
+use crate::syndrome::{read, word_to_look_up, write, Refusal};
+use crate::trap::{read_both, read_trap, Intermediate, Registers, Trap};
+
+/// A question to one of the calls.
+#[derive(Clone, Debug)]
+pub enum Call {
+    Read {
+        edition: u32,
+        word: u64,
+    },
+    Write {
+        edition: u32,
+        record: Record,
+    },
+    Carry {
+        writer: u32,
+        reader: u32,
+        record: Record,
+    },
+    Trap {
+        edition: u32,
+        registers: Registers,
+    },
+    Both {
+        editions: [u32; 2],
+        registers: Registers,
+    },
+    /// By value or on a state that is lent: the answers are the same.
+    Inject {
+        lent: bool,
+        injection: Injection,
+        state: State,
+    },
+}
+
+/// A row of numbers and truth values of any width.
+macro_rules! row {
+    ($($number:expr),* $(,)?) => { vec![$(u64::from($number)),*] };
+}
+
+impl Call {
+    /// The call that a line asks, if it is a row.
+    pub fn parse(line: &[u8]) -> Option<Call> {
+        let mut words = line.split(|&byte| byte == b' ');
+        let name = words.next()?;
+        let numbers = words.map(number).collect::<Option<Vec<u64>>>()?;
+        match (name, numbers.as_slice()) {
+            (b"read", &[edition, word]) => Some(Call::Read { edition: narrow(edition)?, word }),
+            (b"write", [edition, record @ ..]) => {
+                let record = Record::from_row(&LONG, record)?;
+                Some(Call::Write { edition: narrow(*edition)?, record })
+            }
+            (b"carry", [writer, reader, record @ ..]) => Some(Call::Carry {
+                writer: narrow(*writer)?,
+                reader: narrow(*reader)?,
+                record: Record::from_row(&LONG, record)?,
+            }),
+            (b"trap", &[edition, esr, far, hpfar]) => {
+                let registers = Registers { esr, far, hpfar };
+                Some(Call::Trap { edition: narrow(edition)?, registers })
+            }
+            (b"both", &[first, second, esr, far, hpfar]) => {
+                let registers = Registers { esr, far, hpfar };
+                Some(Call::Both { editions: [narrow(first)?, narrow(second)?], registers })
+            }
+            (b"inject" | b"lent", &[kind, fault, level, address, write, ref state @ ..]) => {
+                let injection = injection_of([kind, fault, level, address, write])?;
+                let state = State::from_numbers(state)?;
+                Some(Call::Inject { lent: name == b"lent", injection, state })
+            }
+            _ => None,
+        }
+    }
+
+    /// The line that asks the call, without its end.
+    pub fn line(&self) -> String {
+        let (name, numbers) = match self {
+            Call::Read { edition, word } => ("read", row![*edition, *word]),
+            Call::Write { edition, record } => ("write", [row![*edition], record.row()].concat()),
+            Call::Carry { writer, reader, record } => {
+                ("carry", [row![*writer, *reader], record.row()].concat())
+            }
+            Call::Trap { edition, registers } => {
+                ("trap", [row![*edition], registers_row(registers)].concat())
+            }
+            Call::Both { editions: [first, second], registers } => {
+                ("both", [row![*first, *second], registers_row(registers)].concat())
+            }
+            Call::Inject { lent, injection, state } => {
+                let name = if *lent { "lent" } else { "inject" };
+                (name, [injection_row(injection), state.numbers()].concat())
+            }
+        };
+        format!("{name} {}", text(&numbers))
+    }
+
+    /// The word that the answer looks up, if it looks one up.
+    pub fn word(&self) -> Option<u32> {
+        match self {
+            Call::Read { edition, word } => looked_up(&LONG, *edition, *word),
+            Call::Write { record, .. } | Call::Carry { record, .. } => record.word(),
+            Call::Trap { edition, registers } => looked_up(&LONG, *edition, registers.esr),
+            // A word that is refused before its record is looked up is so in
+            // every edition that there is.
+            Call::Both { registers, .. } => looked_up(&LONG, 0, registers.esr),
+            Call::Inject { .. } => None,
+        }
+    }
+
+    pub fn answer(&self, catalogue: &Catalogue) -> Vec<u64> {
+        match self {
+            Call::Read { edition, word } => {
+                answered(read(catalogue, *edition, *word).map(|record| record.row()))
+            }
+            Call::Write { edition, record } => {
+                answered(write(catalogue, *edition, record).map(|word| row![word]))
+            }
+            Call::Carry { writer, reader, record } => {
+                answered(write(catalogue, *writer, record).map(|word| {
+                    answered(read(catalogue, *reader, word.into()).map(|record| record.row()))
+                }))
+            }
+            Call::Trap { edition, registers } => {
+                answered(read_trap(catalogue, *edition, *registers).map(|trap| trap_row(&trap)))
+            }
+            Call::Both { editions, registers } => {
+                let both = read_both(catalogue, *editions, *registers);
+                answered(both.map(|traps| traps.each_ref().map(trap_row).concat()))
+            }
+            Call::Inject { injection, state, .. } => match inject(state, injection) {
+                Ok(after) => [row![0u8], after.numbers()].concat(),
+                Err(refusal) => [row![refusal], state.numbers()].concat(),
+            },
+        }
+    }
+}
+
+/// The answers to an input's lines, each with its newline. The last line may
+/// lack its own.
+pub fn answers(input: &[u8]) -> Vec<u8> {
+    let calls: Vec<Option<Call>> = lines(input).map(Call::parse).collect();
+    let words = calls.iter().flatten().filter_map(Call::word);
+    let catalogue = Catalogue::of(&LONG, words);
+    let answer = |call: &Option<Call>| match call {
+        Some(call) => text(&call.answer(&catalogue)) + "\n",
+        None => "no row\n".into(),
+    };
+    calls.iter().map(answer).collect::<String>().into_bytes()
+}
+
+/// An input's lines without their newlines: nothing after the last newline is
+/// no line.
+pub fn lines(input: &[u8]) -> impl Iterator<Item = &[u8]> {
+    input
+        .split_inclusive(|&byte| byte == b'\n')
+        .map(|line| line.strip_suffix(b"\n").unwrap_or(line))
+}
+
+/// Numbers in lowercase hexadecimal.
+pub fn text(row: &[u64]) -> String {
+    let words: Vec<String> = row.iter().map(|number| format!("{number:x}")).collect();
+    words.join(" ")
+}
+
+/// A number of at most 64 bits in hexadecimal digits of either case.
+fn number(digits: &[u8]) -> Option<u64> {
+    let digit = |&byte: &u8| char::from(byte).to_digit(16);
+    let more = |value: u64, next: &u8| Some(value.checked_mul(16)? + u64::from(digit(next)?));
+    (!digits.is_empty()).then(|| digits.iter().try_fold(0, more))?
+}
+
+fn narrow(number: u64) -> Option<u32> {
+    u32::try_from(number).ok()
+}
+
+fn looked_up(form: &Form, edition: u32, word: u64) -> Option<u32> {
+    Some(word_to_look_up(form, edition, word).ok()?.1)
+}
+
+/// A row with 0 for taken before it, or the refusal.
+fn answered(answer: Result<Vec<u64>, Refusal>) -> Vec<u64> {
+    match answer {
+        Ok(row) => [row![0u8], row].concat(),
+        Err(refusal) => row![refusal.number, refusal.editions.0, refusal.editions.count()],
+    }
+}
+
+fn registers_row(registers: &Registers) -> Vec<u64> {
+    vec![registers.esr, registers.far, registers.hpfar]
+}
+
+/// The record, then 0 or 1 and the virtual address, then 0, 1 and the page,
+/// or 2 and the byte.
+fn trap_row(trap: &Trap) -> Vec<u64> {
+    let virtual_address = match trap.virtual_address {
+        None => row![0u8],
+        Some(address) => row![1u8, address],
+    };
+    let intermediate = match trap.intermediate {
+        Intermediate::None => row![0u8],
+        Intermediate::Page(address) => row![1u8, address],
+        Intermediate::Byte(address) => row![2u8, address],
+    };
+    [trap.record.row(), virtual_address, intermediate].concat()
+}
+
+/// Kind, fault, level, address and write. What an injection or fault lacks
+/// is shown as 0.
+fn injection_row(injection: &Injection) -> Vec<u64> {
+    match *injection {
+        Injection::UndefinedAt => row![0u8, 0u8, 0u8, 0u8, 0u8],
+        Injection::UndefinedAfter => row![1u8, 0u8, 0u8, 0u8, 0u8],
+        Injection::SupervisorCall => row![2u8, 0u8, 0u8, 0u8, 0u8],
+        Injection::PrefetchAbort { fault, address } => {
+            let [fault, level] = fault_numbers(fault);
+            row![3u8, fault, level, address, 0u8]
+        }
+        Injection::DataAbort { fault, address, write } => {
+            let [fault, level] = fault_numbers(fault);
+            row![4u8, fault, level, address, write]
+        }
+    }
+}
+
+fn fault_numbers(fault: Fault) -> [u8; 2] {
+    match fault {
+        Fault::External => [0, 0],
+        Fault::Translation(level) => [1, level],
+        Fault::AccessFlag(level) => [2, level],
+        Fault::Permission(level) => [3, level],
+        Fault::Alignment => [4, 0],
+    }
+}
+
+fn injection_of(numbers: [u64; 5]) -> Option<Injection> {
+    match numbers {
+        [0, 0, 0, 0, 0] => Some(Injection::UndefinedAt),
+        [1, 0, 0, 0, 0] => Some(Injection::UndefinedAfter),
+        [2, 0, 0, 0, 0] => Some(Injection::SupervisorCall),
+        [3, fault, level, address, 0] => {
+            Some(Injection::PrefetchAbort { fault: fault_of(fault, level)?, address })
+        }
+        [4, fault, level, address, write @ (0 | 1)] => {
+            let fault = fault_of(fault, level)?;
+            Some(Injection::DataAbort { fault, address, write: write == 1 })
+        }
+        _ => None,
+    }
+}
+
+fn fault_of(fault: u64, level: u64) -> Option<Fault> {
+    let level = u8::try_from(level).ok()?;
+    match (fault, level) {
+        (0, 0) => Some(Fault::External),
+        (1, _) => Some(Fault::Translation(level)),
+        (2, _) => Some(Fault::AccessFlag(level)),
+        (3, _) => Some(Fault::Permission(level)),
+        (4, 0) => Some(Fault::Alignment),
+        _ => None,
+    }
+}
+
+#[cfg(test)]
+mod tests {
+    use super::*;
+
+    #[test]
+    fn a_line_that_is_no_row_says_so() {
+        let state = " 0".repeat(45);
+        let bad = [
+            "".to_string(),
+            "read".into(),
+            "read 0".into(),
+            "read 0 0 0".into(),
+            "read 0  0".into(),
+            "read 0 0 ".into(),
+            " read 0 0".into(),
+            "read 0 +1".into(),
+            "read 0 1g".into(),
+            "read 100000000 0".into(),
+            "read 0 10000000000000000".into(),
+            "reads 0 0".into(),
+            "Read 0 0".into(),
+            "write 0 0 0 2".into(),
+            "write 0 a 0".into(),
+            "write 0 0 100000000 1".into(),
+            format!("inject 0 0 0 0 1{state}"),
+            format!("inject 0 1 0 0 0{state}"),
+            format!("inject 3 0 0 0 1{state}"),
+            format!("inject 3 4 1 0 0{state}"),
+            format!("inject 3 1 100 0 0{state}"),
+            format!("inject 4 1 1 0 2{state}"),
+            format!("inject 5 0 0 0 0{state}"),
+            format!("inject 0 0 0 0 0{state} 0"),
+        ];
+        for line in bad {
+            assert!(Call::parse(line.as_bytes()).is_none(), "{line}");
+        }
+        assert!(Call::parse(b"read 0 0000000000000000000000001").is_some());
+        assert!(Call::parse(b"read 0 FFFFffffFFFFffff").is_some());
+    }
+
+    #[test]
+    fn a_call_is_parsed_back() {
+        for line in ["read 7 1f", "write 0 0 22 1", "both 0 8 1 2 3", "carry 1 2 5 1 0 f"] {
+            assert_eq!(Call::parse(line.as_bytes()).expect("a row").line(), line);
+        }
+    }
+}

@@ -1,0 +1,276 @@
+//! The long form: ESR words, by the layout lines of document 01. Nothing here
+//! looks at a word.
+
+use crate::edition::Edition;
+use crate::form::{bit, field, Family, Field, Form, Kind};
+
+pub static LONG: Form = Form { kinds: &KINDS, editions: 8, needs_il, families };
+
+const IL: Field = bit("IL", 25);
+const CV: Field = bit("CV", 24);
+const COND: Field = field("COND", 23, 20);
+const DIRECTION: Field = bit("Direction", 0);
+const SET: Field = field("SET", 12, 11);
+const FNV: Field = bit("FnV", 10);
+const EA: Field = bit("EA", 9);
+const S1PTW: Field = bit("S1PTW", 7);
+const CODE: Field = field("code", 5, 0);
+
+static KINDS: [Kind; 10] = [
+    Kind { number: 0, classes: &[0x00, 0x0e, 0x22], fields: &[IL] },
+    Kind { number: 1, classes: &[0x01], fields: &[IL, CV, COND, bit("TI", 0)] },
+    Kind {
+        number: 2,
+        classes: &[0x03, 0x05, 0x08],
+        fields: &[
+            IL,
+            CV,
+            COND,
+            field("Opc2", 19, 17),
+            field("Opc1", 16, 14),
+            field("CRn", 13, 10),
+            field("Rt", 9, 5),
+            field("CRm", 4, 1),
+            DIRECTION,
+        ],
+    },
+    Kind {
+        number: 3,
+        classes: &[0x04, 0x0c],
+        fields: &[
+            IL,
+            CV,
+            COND,
+            field("Opc1", 19, 16),
+            field("Rt2", 14, 10),
+            field("Rt", 9, 5),
+            field("CRm", 4, 1),
+            DIRECTION,
+        ],
+    },
+    Kind {
+        number: 4,
+        classes: &[0x06],
+        fields: &[
+            IL,
+            CV,
+            COND,
+            field("imm8", 19, 12),
+            field("Rn", 9, 5),
+            bit("Offset", 4),
+            field("AM", 3, 1),
+            DIRECTION,
+        ],
+    },
+    Kind { number: 5, classes: &[0x07], fields: &[IL, CV, COND] },
+    Kind { number: 6, classes: &[0x11, 0x12], fields: &[IL, field("imm16", 15, 0)] },
+    Kind { number: 7, classes: &[0x13], fields: &[IL, CV, COND, bit("CCKNOWNPASS", 19)] },
+    Kind { number: 8, classes: &[0x20], fields: &[IL, SET, FNV, EA, S1PTW, CODE] },
+    Kind {
+        number: 9,
+        classes: &[0x24],
+        fields: &[
+            IL,
+            bit("ISV", 24),
+            field("SAS", 23, 22),
+            bit("SSE", 21),
+            field("SRT", 20, 16),
+            bit("SF", 15),
+            bit("AR", 14),
+            SET,
+            FNV,
+            EA,
+            bit("CM", 8),
+            S1PTW,
+            bit("WnR", 6),
+            CODE,
+        ],
+    },
+];
+
+fn needs_il(class: u8, isv: bool) -> bool {
+    match class {
+        0x00 | 0x0e | 0x20 | 0x22 => true,
+        0x24 => !isv,
+        _ => false,
+    }
+}
+
+fn families(kind: &'static Kind, class: u8, edition: Edition) -> Vec<Family> {
+    let every = Family::every(kind);
+    match class {
+        0x00 | 0x0e | 0x22 => vec![every.with("IL", [1])],
+        0x01 | 0x03 | 0x04 | 0x05 | 0x07 | 0x08 | 0x0c => conditions(&every).into(),
+        0x06 => conditions(&every).iter().flat_map(addressing_modes).collect(),
+        0x11 | 0x12 => vec![every],
+        0x13 => calls_to_the_monitor(&every),
+        0x20 => fault_statuses(&every.with("IL", [1]), edition, &fault_codes(edition)),
+        0x24 => data_aborts(&every, edition),
+        _ => vec![],
+    }
+}
+
+/// CV 1 with COND 1111 isn't had; with CV 0 COND is UNKNOWN and may be
+/// anything.
+pub fn conditions(family: &Family) -> [Family; 2] {
+    let valid = family.clone().with("CV", [1]).with("COND", 0..=14);
+    [family.clone().with("CV", [0]), valid]
+}
+
+/// The literal forms 100 and 110 only load; 101 and 111 are reserved.
+pub fn addressing_modes(family: &Family) -> [Family; 2] {
+    let literal = family.clone().with("AM", [0b100, 0b110]).with("Direction", [1]);
+    [family.clone().with("AM", 0b000..=0b011), literal]
+}
+
+/// With CCKNOWNPASS 0 there is one condition, its CV and COND 0.
+pub fn calls_to_the_monitor(family: &Family) -> Vec<Family> {
+    let unknown = family.clone().with("CCKNOWNPASS", [0]).with("CV", [0]).with("COND", [0]);
+    let known = conditions(&family.clone().with("CCKNOWNPASS", [1]));
+    [unknown].into_iter().chain(known).collect()
+}
+
+/// The fault codes that both aborts have in an edition.
+fn fault_codes(edition: Edition) -> Vec<u32> {
+    let mut codes = Vec::new();
+    codes.extend(0x00..=0x07);
+    codes.extend(0x09..=0x0b);
+    codes.extend(0x0d..=0x0f);
+    codes.push(0x10);
+    codes.extend(0x14..=0x17);
+    codes.push(0x30);
+    if edition.lpa2() {
+        codes.extend([0x08, 0x0c, 0x13, 0x29, 0x2b]);
+    }
+    if !edition.ras() {
+        codes.push(0x18);
+        codes.extend(0x1c..=0x1f);
+    }
+    if edition.lpa2() && !edition.ras() {
+        codes.push(0x1b);
+    }
+    if edition.hafdbs() {
+        codes.push(0x31);
+    }
+    codes
+}
+
+fn data_fault_codes(edition: Edition) -> Vec<u32> {
+    let mut codes = fault_codes(edition);
+    codes.extend([0x21, 0x34, 0x35]);
+    codes
+}
+
+/// Address size, translation, access flag and permission faults: the codes
+/// that may come from a walk of the first stage.
+fn is_mmu_fault(code: u32) -> bool {
+    matches!(code, 0x00..=0x0f | 0x29 | 0x2b)
+}
+
+/// The values of a bit that may be 1 only where the rules allow it.
+pub fn bit_if(may_be_1: bool) -> std::ops::RangeInclusive<u32> {
+    0..=may_be_1.into()
+}
+
+fn sets(edition: Edition, code: u32) -> &'static [u32] {
+    if code == 0x10 && edition.ras() {
+        &[0, 2, 3]
+    } else {
+        &[0]
+    }
+}
+
+/// The fields of both aborts with which an edition has each of the codes.
+fn fault_statuses(family: &Family, edition: Edition, codes: &[u32]) -> Vec<Family> {
+    let status = |&code: &u32| {
+        let family = family.clone().with("code", [code]);
+        family
+            .with("SET", sets(edition, code).iter().copied())
+            .with("FnV", bit_if(code == 0x10))
+            .with("EA", bit_if((0x10..=0x1f).contains(&code)))
+            .with("S1PTW", bit_if(is_mmu_fault(code)))
+    };
+    codes.iter().map(status).collect()
+}
+
+fn data_aborts(every: &Family, edition: Edition) -> Vec<Family> {
+    let codes = data_fault_codes(edition);
+    let mut families: Vec<Family> =
+        without_syndrome(every).iter().flat_map(|f| fault_statuses(f, edition, &codes)).collect();
+    for code in codes.into_iter().filter(|&code| code_may_have_isv(edition, code)) {
+        for family in with_syndrome(every) {
+            let statuses = fault_statuses(&family, edition, &[code]);
+            families.extend(statuses.into_iter().map(|family| family.with("S1PTW", [0])));
+        }
+    }
+    families
+}
+
+/// ISV 0, where IL is 1 and the bits of the access are 0. Cache maintenance
+/// counts as a write.
+fn without_syndrome(every: &Family) -> [Family; 2] {
+    let no_access = ["ISV", "SAS", "SSE", "SRT", "SF", "AR"];
+    let family = no_access.iter().fold(every.clone(), |family, name| family.with(name, [0]));
+    let family = family.with("IL", [1]);
+    [family.clone().with("CM", [0]), family.with("CM", [1]).with("WnR", [1])]
+}
+
+fn code_may_have_isv(edition: Edition, code: u32) -> bool {
+    is_mmu_fault(code) || (!edition.ras() && (0x13..=0x17).contains(&code))
+}
+
+/// ISV 1. SF is 0 and the register is neither 15 nor 31, since the guest is
+/// AArch32. A load of a byte or halfword may extend the sign.
+fn with_syndrome(every: &Family) -> [Family; 2] {
+    let registers = (0..=14).chain(16..=30);
+    let family =
+        every.clone().with("ISV", [1]).with("SRT", registers).with("SF", [0]).with("CM", [0]);
+    let sign_extended = family.clone().with("SSE", [1]).with("SAS", 0..=1).with("WnR", [0]);
+    [family.with("SSE", [0]).with("SAS", 0..=2), sign_extended]
+}
+
+#[cfg(test)]
+mod tests {
+    use super::*;
+    use crate::edition::EditionMask;
+    use std::collections::HashMap;
+
+    /// The layout lines give each class a number of records that can be
+    /// counted by hand.
+    #[test]
+    fn classes_have_the_records_that_the_layout_counts() {
+        let conditions = 31;
+        let expected = [
+            (0x00, 1),
+            (0x01, 2 * conditions * 2),
+            (0x03, (2 * conditions) << 20),
+            (0x04, (2 * conditions) << 19),
+            (0x06, 2 * conditions * 256 * 32 * 2 * 10),
+            (0x07, 2 * conditions),
+            (0x11, 2 << 16),
+            (0x13, 2 + 2 * conditions),
+        ];
+        for (class, number) in expected {
+            let mut seen = 0;
+            LONG.records_of_class(class, &mut |_, _, _| seen += 1);
+            assert_eq!(seen, number, "class {class:#x}");
+        }
+    }
+
+    #[test]
+    fn no_two_records_make_one_word() {
+        for class in LONG.classes() {
+            if matches!(class, 0x03 | 0x04 | 0x05 | 0x06 | 0x08 | 0x0c) {
+                continue;
+            }
+            let mut words: HashMap<u32, (Vec<u32>, EditionMask)> = HashMap::new();
+            LONG.records_of_class(class, &mut |values, word, editions| {
+                let known =
+                    words.entry(word).or_insert_with(|| (values.to_vec(), EditionMask::NONE));
+                assert_eq!(known.0, values);
+                assert!(!known.1.meets(editions), "a record twice in one edition");
+                known.1 = known.1.joined(editions);
+            });
+        }
+    }
+}

@@ -1,0 +1,273 @@
+//! The proved programs run on many inputs, and every byte that they write
+//! compared with what this program answers. No contract reaches what a program
+//! reads and writes.
+
+use crate::call;
+use crate::catalogue::Catalogue;
+use crate::long::LONG;
+use crate::random::Random;
+use crate::syndrome::{read, word_to_look_up};
+use std::fs;
+use std::io::{self, Read, Write};
+use std::path::Path;
+use std::process::{Command, Stdio};
+use std::thread;
+use std::time::Duration;
+
+/// A program, what it must write for an input, and inputs of its own.
+struct Program {
+    name: &'static str,
+    answers: fn(&[u8]) -> Vec<u8>,
+    inputs: fn() -> Vec<(&'static str, Vec<u8>)>,
+}
+
+const PROGRAMS: [Program; 2] = [
+    Program { name: "trapread", answers: trapread, inputs: trapread_inputs },
+    Program { name: "checker", answers: call::answers, inputs: checker_inputs },
+];
+
+/// Runs the programs of a folder; true when all wrote what they must.
+pub fn run(directory: &Path) -> io::Result<bool> {
+    let mut all_same = true;
+    for program in &PROGRAMS {
+        let path = directory.join(program.name);
+        for (input_name, input) in (program.inputs)() {
+            let expected = (program.answers)(&input);
+            for pieces in Pieces::all(input.len()) {
+                let written = feed(&path, &input, pieces)?;
+                let same = written == expected;
+                if !same {
+                    let at = written.iter().zip(&expected).position(|(a, b)| a != b);
+                    let at = at.unwrap_or(written.len().min(expected.len()));
+                    println!(
+                        "{} on {input_name}, {pieces:?}: wrote {} bytes for {}, first other at {at}",
+                        program.name,
+                        written.len(),
+                        expected.len()
+                    );
+                }
+                all_same &= same;
+            }
+        }
+        println!("{}: {}", program.name, if all_same { "same" } else { "DIFFERENT" });
+    }
+    Ok(all_same)
+}
+
+/// Writes what a program must write for this program's standard input.
+pub fn answer(name: &str) -> io::Result<bool> {
+    let program = PROGRAMS.iter().find(|program| program.name == name);
+    let program = program.ok_or_else(|| io::Error::other(format!("no program {name}")))?;
+    let mut input = Vec::new();
+    io::stdin().read_to_end(&mut input)?;
+    io::stdout().write_all(&(program.answers)(&input))?;
+    Ok(true)
+}
+
+/// Whether the stored output of each program, `NAME/stdout`, is this program's
+/// answer to its stored input.
+pub fn check(directory: &Path) -> io::Result<bool> {
+    let mut all_same = true;
+    for program in &PROGRAMS {
+        let folder = directory.join(program.name);
+        let input = fs::read(folder.join("stdin"))?;
+        let same = fs::read(folder.join("stdout"))? == (program.answers)(&input);
+        let verdict = if same { "same" } else { "DIFFERENT" };
+        println!("{}: stored answers {verdict}", program.name);
+        all_same &= same;
+    }
+    Ok(all_same)
+}
+
+/// How an input is handed over.
+#[derive(Clone, Copy, Debug)]
+enum Pieces {
+    /// As fast as the pipe takes it.
+    AtOnce,
+    /// A few bytes at a time, each after a pause.
+    Few,
+}
+
+impl Pieces {
+    /// A long input is handed over at once alone: each pause takes time.
+    fn all(length: usize) -> Vec<Pieces> {
+        match length {
+            0..=1000 => vec![Pieces::AtOnce, Pieces::Few],
+            _ => vec![Pieces::AtOnce],
+        }
+    }
+}
+
+/// What a program writes for an input. One that stops reading early has
+/// written what it has written.
+fn feed(path: &Path, input: &[u8], pieces: Pieces) -> io::Result<Vec<u8>> {
+    let mut child = Command::new(path).stdin(Stdio::piped()).stdout(Stdio::piped()).spawn()?;
+    let id = child.id();
+    let mut stdin = child.stdin.take().expect("a pipe");
+    let mut stdout = child.stdout.take().expect("a pipe");
+    let mut written = Vec::new();
+    thread::scope(|scope| {
+        let writer = scope.spawn(move || match pieces {
+            Pieces::AtOnce => stdin.write_all(input),
+            Pieces::Few => write_few(&mut stdin, input, id),
+        });
+        stdout.read_to_end(&mut written)?;
+        match writer.join().expect("a writer that ends") {
+            Err(error) if error.kind() != io::ErrorKind::BrokenPipe => Err(error),
+            _ => Ok(()),
+        }
+    })?;
+    let status = child.wait()?;
+    match status.success() {
+        true => Ok(written),
+        false => Err(io::Error::other(format!("{} ended with {status}", path.display()))),
+    }
+}
+
+/// Pieces of one to seven bytes, each when the program has read the one before
+/// and waits for more.
+fn write_few(pipe: &mut impl Write, input: &[u8], id: u32) -> io::Result<()> {
+    let mut rest = input;
+    for length in (1..=7).cycle() {
+        if rest.is_empty() {
+            return Ok(());
+        }
+        let (piece, after) = rest.split_at(length.min(rest.len()));
+        wait_until_asleep(id)?;
+        pipe.write_all(piece)?;
+        rest = after;
+    }
+    Ok(())
+}
+
+/// Waits until a process sleeps, as it does in a read of an empty pipe, or has
+/// ended. Its state stands behind its name in parentheses.
+fn wait_until_asleep(id: u32) -> io::Result<()> {
+    for _ in 0..20_000 {
+        let Ok(stat) = fs::read_to_string(format!("/proc/{id}/stat")) else { break };
+        let state = stat.rsplit(')').next().and_then(|rest| rest.trim_start().chars().next());
+        if matches!(state, Some('S' | 'Z' | 'X')) {
+            return Ok(());
+        }
+        thread::sleep(Duration::from_micros(100));
+    }
+    Err(io::Error::other("the program doesn't come to read"))
+}
+
+/// Document 01: one digit for the edition, a space and 16 hexadecimal digits.
+fn question(line: &[u8]) -> Option<(u32, u64)> {
+    let line = std::str::from_utf8(line).ok()?;
+    let (edition, word) = line.split_once(' ')?;
+    let are_digits = edition.bytes().all(|byte| byte.is_ascii_digit())
+        && word.bytes().all(|byte| byte.is_ascii_hexdigit());
+    if edition.len() != 1 || word.len() != 16 || !are_digits {
+        return None;
+    }
+    Some((edition.parse().ok()?, u64::from_str_radix(word, 16).ok()?))
+}
+
+/// What the trap reader writes for an input.
+fn trapread(input: &[u8]) -> Vec<u8> {
+    let questions: Vec<Option<(u32, u64)>> = call::lines(input).map(question).collect();
+    let words = questions.iter().flatten();
+    let words = words.filter_map(|&(edition, word)| word_to_look_up(&LONG, edition, word).ok());
+    let catalogue = Catalogue::of(&LONG, words.map(|(_, word)| word));
+    let answer = |question: &Option<(u32, u64)>| match *question {
+        None => "no line\n".into(),
+        Some((edition, word)) => match read(&catalogue, edition, word) {
+            Ok(_) => "taken\n".into(),
+            Err(refusal) => {
+                let editions = refusal.editions;
+                format!("refused {} {} {}\n", refusal.number, editions.0, editions.count())
+            }
+        },
+    };
+    questions.iter().map(answer).collect::<String>().into_bytes()
+}
+
+/// The paper's own lines, inputs that end in every way, and a long one.
+fn trapread_inputs() -> Vec<(&'static str, Vec<u8>)> {
+    let paper = "0 0000000092000005\n1 0000000092000018\nx\n";
+    let texts = [
+        ("the paper's three lines", paper),
+        ("nothing", ""),
+        ("a newline", "\n"),
+        ("two newlines", "\n\n"),
+        ("a last line without its newline", "0 0000000092000005\n1 0000000092000018"),
+        ("a last line that is too short", "1 000000009200001"),
+        ("a last line that is too long", "1 00000000920000180"),
+        ("a last line of one byte", "0 0000000092000005\n0"),
+        ("a last line of a space", "\n "),
+        ("digits of either case", "7 000000009200001b\n7 000000009200001B\n7 00000000920000lb\n"),
+        (
+            "editions that don't exist",
+            "8 0000000092000005\n9 0000000092000005\na 0000000092000005\n",
+        ),
+        ("other spaces", "0\t0000000092000005\n 0 0000000092000005\n0 0000000092000005 \n"),
+        ("other ends", "0 0000000092000005\r\n0 0000000092000005\0\n"),
+    ];
+    let mut inputs: Vec<_> = texts.map(|(name, text)| (name, text.as_bytes().to_vec())).into();
+    inputs.push((
+        "some hundred KiB",
+        long_input(18, |random| {
+            let word =
+                if random.below(2) == 0 { 0x9200_0000 + random.below(64) } else { random.next() };
+            format!("{} {word:016x}", random.below(10))
+        }),
+    ));
+    inputs.push(("a line of some hundred KiB", "0".repeat(300_000).into_bytes()));
+    inputs.push(("some hundred thousand newlines", "\n".repeat(200_000).into_bytes()));
+    inputs
+}
+
+fn checker_inputs() -> Vec<(&'static str, Vec<u8>)> {
+    let texts = [
+        ("nothing", ""),
+        ("a newline", "\n"),
+        ("a last line without its newline", "read 0 92000005\nread 1 92000018"),
+        ("a last line that is no row", "read 0 92000005\nread 1"),
+        ("a last line of a space", "read 0 92000005\n "),
+    ];
+    let mut inputs: Vec<_> = texts.map(|(name, text)| (name, text.as_bytes().to_vec())).into();
+    inputs.push((
+        "some hundred KiB",
+        long_input(4, |random| {
+            let word = 0x9200_0000 + random.below(0x100);
+            format!(
+                "trap {:x} {word:x} {:x} {:x}",
+                random.below(10),
+                random.word(),
+                random.below(1 << 40)
+            )
+        }),
+    ));
+    inputs.push(("a line of some hundred KiB", "read ".repeat(60_000).into_bytes()));
+    inputs.push(("some hundred thousand newlines", "\n".repeat(200_000).into_bytes()));
+    inputs
+}
+
+/// Lines drawn at random, now and then one that is cut short, some 300 KiB.
+fn long_input(shortest: u64, line: impl Fn(&mut Random) -> String) -> Vec<u8> {
+    let mut random = Random::seeded(6);
+    let mut input = String::new();
+    while input.len() < 300_000 {
+        let mut line = line(&mut random);
+        if random.below(16) == 0 {
+            line.truncate(random.below(shortest) as usize);
+        }
+        input += &line;
+        input.push('\n');
+    }
+    input.into_bytes()
+}
+
+#[cfg(test)]
+mod tests {
+    use super::*;
+
+    #[test]
+    fn the_paper_s_lines_are_answered_as_it_says() {
+        let input = b"0 0000000092000005\n1 0000000092000018\nx\n";
+        assert_eq!(trapread(input), b"taken\nrefused 6 85 4\nno line\n");
+    }
+}

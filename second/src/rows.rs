@@ -1,0 +1,154 @@
+//! The stored questions and answers: the standard input of the program
+//! `checker` and what it must write.
+
+mod aborts;
+mod inject;
+mod malformed;
+mod read;
+mod samples;
+mod trap;
+mod write;
+
+use crate::call::answers;
+use crate::cases;
+use std::fs;
+use std::io;
+use std::path::Path;
+
+/// One file with its lines.
+struct File {
+    name: &'static str,
+    bytes: Vec<u8>,
+}
+
+/// The questions to every call, those of the paper first.
+fn questions() -> Vec<u8> {
+    let calls = cases::cases()
+        .into_iter()
+        .map(|case| case.call)
+        .chain(read::questions())
+        .chain(write::questions())
+        .chain(trap::questions())
+        .chain(inject::questions());
+    let lines = calls.map(|call| call.line() + "\n");
+    let mut bytes = lines.collect::<String>().into_bytes();
+    bytes.extend(malformed::lines());
+    bytes
+}
+
+/// Both files, or the cases of the paper that this program answers otherwise.
+fn files() -> Result<[File; 2], Vec<String>> {
+    let failures = cases::failures();
+    if !failures.is_empty() {
+        return Err(failures);
+    }
+    let stdin = questions();
+    let stdout = answers(&stdin);
+    Ok([File { name: "stdin", bytes: stdin }, File { name: "stdout", bytes: stdout }])
+}
+
+/// Numbers below a bound by turns.
+struct Turn {
+    bound: u32,
+    number: u32,
+}
+
+impl Turn {
+    fn over(bound: u32) -> Turn {
+        Turn { bound, number: 0 }
+    }
+
+    fn next(&mut self) -> u32 {
+        let number = self.number;
+        self.number = (number + 1) % self.bound;
+        number
+    }
+}
+
+fn report_failures(failures: &[String]) -> bool {
+    for failure in failures {
+        println!("{failure}");
+    }
+    false
+}
+
+/// The folder of the program among the crates.
+const FOLDER: &str = "checker";
+
+/// Writes the files; true when all cases of the paper came out right.
+pub fn write(directory: &Path) -> io::Result<bool> {
+    let files = match files() {
+        Ok(files) => files,
+        Err(failures) => return Ok(report_failures(&failures)),
+    };
+    for File { name, bytes } in files {
+        fs::write(directory.join(FOLDER).join(name), &bytes)?;
+        println!("{FOLDER}/{name}: {} lines, {} bytes", count_lines(&bytes), bytes.len());
+    }
+    Ok(true)
+}
+
+/// Makes the files again and compares; true when every byte is the same.
+pub fn check(directory: &Path) -> io::Result<bool> {
+    let files = match files() {
+        Ok(files) => files,
+        Err(failures) => return Ok(report_failures(&failures)),
+    };
+    println!("cases of the paper: same");
+    let mut all_same = true;
+    for File { name, bytes } in files {
+        let stored = fs::read(directory.join(FOLDER).join(name));
+        let same = stored.is_ok_and(|stored| stored == bytes);
+        let verdict = if same { "same" } else { "DIFFERENT OR MISSING" };
+        println!("{FOLDER}/{name}: {} lines, {verdict}", count_lines(&bytes));
+        all_same &= same;
+    }
+    Ok(all_same)
+}
+
+fn count_lines(bytes: &[u8]) -> usize {
+    bytes.iter().filter(|&&byte| byte == b'\n').count()
+}
+
+#[cfg(test)]
+mod tests {
+    use super::*;
+    use crate::call::lines;
+    use std::collections::{BTreeMap, BTreeSet};
+
+    fn first_word(line: &[u8]) -> String {
+        let word = line.split(|&byte| byte == b' ').next().unwrap_or_default();
+        String::from_utf8_lossy(word).into_owned()
+    }
+
+    /// Every call is asked by some thousand rows, or some hundred of the lent
+    /// one, and gives every number that it can give.
+    #[test]
+    fn each_call_gives_every_answer_that_it_can_give() {
+        let expected = [
+            ("read", 1000, "0 1 2 3 4 5 6"),
+            ("write", 1000, "0 1 4 5 6"),
+            ("carry", 1000, "0 1 4 5 6"),
+            ("trap", 1000, "0 1 2 3 4 5 6 7 8"),
+            ("both", 1000, "0 1 2 3 4 5 6 7 8"),
+            ("inject", 1000, "0 9 a b c"),
+            ("lent", 300, "0 9 a b c"),
+        ];
+        let [stdin, stdout] = files().expect("the cases of the paper");
+        let mut given: BTreeMap<String, (usize, BTreeSet<String>)> = BTreeMap::new();
+        for (question, answer) in lines(&stdin.bytes).zip(lines(&stdout.bytes)) {
+            if answer == b"no row" {
+                continue;
+            }
+            let (asked, answers) = given.entry(first_word(question)).or_default();
+            *asked += 1;
+            answers.insert(first_word(answer));
+        }
+        assert_eq!(given.len(), expected.len());
+        for (call, least, numbers) in expected {
+            let (asked, answers) = &given[call];
+            assert!(*asked >= least, "{call}: {asked} rows");
+            assert_eq!(*answers, numbers.split(' ').map(String::from).collect(), "{call}");
+        }
+    }
+}

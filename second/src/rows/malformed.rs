@@ -1,0 +1,75 @@
+//! Lines that are no row, beside the rows that they were made from.
+
+/// Rows of every call.
+fn rows() -> Vec<String> {
+    let state: String = (1..=45).map(|number| format!(" {number:x}")).collect();
+    let mut rows: Vec<String> = [
+        "read 0 92000005",
+        "write 0 0 0 1",
+        "write 0 1 1 1 e 1",
+        "write 0 2 3 1 1 e 0 0 0 0 0 1",
+        "write 0 3 4 1 1 e 1 2 3 4 0",
+        "write 0 4 1 1 e ff 1f 1 3 0",
+        "write 0 5 1 1 e",
+        "write 0 6 11 1 ffff",
+        "write 0 7 1 1 e 1",
+        "write 0 8 1 3 1 1 0 10",
+        "write 0 9 1 1 2 0 3 0 0 0 0 0 0 0 1 5",
+        "carry 0 1 8 1 3 1 1 0 10",
+        "trap 0 92000005 8abc 12340",
+        "both 0 2 92000005 8abc 12340",
+    ]
+    .map(String::from)
+    .into();
+    for injection in ["0 0 0 0 0", "3 1 1 8000 0", "4 0 0 8000 1"] {
+        rows.push(format!("inject {injection}{state}"));
+        rows.push(format!("lent {injection}{state}"));
+    }
+    rows
+}
+
+/// The row with each of its numbers in turn at a value.
+fn with_each_number(row: &str, value: &str) -> Vec<String> {
+    let words: Vec<&str> = row.split(' ').collect();
+    let with = |place| {
+        let mut changed = words.clone();
+        changed[place] = value;
+        changed.join(" ")
+    };
+    // The registers of a state are alike.
+    (1..words.len()).filter(|place| !(10..36).contains(place)).map(with).collect()
+}
+
+/// Numbers missing and too many; each number in turn too large for a flag, for
+/// a byte, for 32 bits and for 64 bits, empty, and no number; other words for
+/// the call; other spaces. Some of them are rows: a number above one bit need
+/// not be a flag. The last has no newline.
+pub fn lines() -> Vec<u8> {
+    let mut lines = Vec::new();
+    for row in rows() {
+        lines.push(row.clone());
+        lines.push(format!("{row} 0"));
+        lines.push(row[..row.rfind(' ').unwrap_or(0)].into());
+        lines.push(format!("{row} "));
+        lines.push(format!(" {row}"));
+        lines.push(format!("{row}\r"));
+        lines.push(row.to_uppercase());
+        lines.push(format!("x{row}"));
+        lines.push(row.replacen(' ', "x ", 1));
+        lines.push(row.replacen(' ', "  ", 1));
+        lines.push(row.replacen(' ', "\t", 1));
+        for value in
+            ["2", "100", "100000000", "10000000000000000", "", "g", "-1", "0000000000000000000001"]
+        {
+            lines.extend(with_each_number(&row, value));
+        }
+    }
+    lines.push(String::new());
+    lines.push("read".into());
+    lines.push("readreadread 0 0".into());
+    lines.push(format!("read 0 {}", "0".repeat(2000)));
+    lines.push(format!("read{}", " 0".repeat(2000)));
+    lines.push("r".repeat(2000));
+    lines.push("read 0 2000000".into());
+    lines.join("\n").into_bytes()
+}

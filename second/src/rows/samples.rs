@@ -1,0 +1,116 @@
+//! Records around the edges of the rules.
+
+use crate::form::{Form, Kind, Record};
+use crate::long::LONG;
+use crate::random::Random;
+
+/// At least one ordinary record of each class, as rows. Some of the aborts are
+/// had by some editions only.
+const SAMPLES: [&[u64]; 31] = [
+    &[0, 0x00, 1],
+    &[0, 0x0e, 1],
+    &[0, 0x22, 1],
+    &[1, 1, 1, 0xe, 1],
+    &[1, 0, 0, 0xf, 0],
+    &[2, 0x03, 1, 1, 0xe, 0, 0, 0, 0, 0, 1],
+    &[2, 0x03, 0, 0, 0xf, 7, 7, 0xf, 0x1f, 0xf, 0],
+    &[2, 0x05, 0, 0, 5, 7, 7, 0xf, 0x1f, 0xf, 1],
+    &[2, 0x08, 1, 1, 0, 2, 5, 9, 0x12, 6, 1],
+    &[3, 0x04, 1, 1, 0xe, 0xf, 0x1f, 0x1f, 0xf, 0],
+    &[3, 0x0c, 0, 0, 0xf, 0, 0, 0, 0, 1],
+    &[3, 0x0c, 1, 1, 9, 6, 0x15, 0xa, 0xc, 1],
+    &[4, 1, 1, 0xe, 0xff, 0x1f, 1, 3, 0],
+    &[4, 0, 0, 0xf, 0x5a, 7, 0, 4, 1],
+    &[5, 1, 1, 0xe],
+    &[5, 0, 0, 0xf],
+    &[6, 0x11, 1, 0],
+    &[6, 0x11, 0, 0xffff],
+    &[6, 0x12, 1, 1],
+    &[7, 1, 0, 0, 0],
+    &[7, 1, 1, 0xe, 1],
+    &[7, 0, 0, 0xf, 1],
+    &[8, 1, 0, 0, 0, 0, 0x05],
+    &[8, 1, 0, 0, 0, 1, 0x0d],
+    &[8, 1, 3, 1, 1, 0, 0x10],
+    &[9, 1, 0, 0, 0, 0, 0, 0, 0, 0, 0, 0, 0, 0, 0x05],
+    &[9, 1, 0, 0, 0, 0, 0, 0, 0, 0, 0, 1, 1, 1, 0x0f],
+    &[9, 1, 1, 2, 0, 3, 0, 0, 0, 0, 0, 0, 0, 1, 0x05],
+    &[9, 0, 1, 1, 1, 0x1e, 0, 1, 0, 0, 0, 0, 0, 0, 0x07],
+    &[9, 1, 1, 0, 0, 0xe, 0, 0, 0, 0, 1, 0, 0, 0, 0x14],
+    &[9, 1, 0, 0, 0, 0, 0, 0, 2, 1, 1, 0, 0, 1, 0x10],
+];
+
+pub fn record(row: &[u64]) -> Record {
+    Record::from_row(&LONG, row).expect("a record")
+}
+
+pub fn samples() -> impl Iterator<Item = Record> {
+    SAMPLES.iter().map(|row| record(row))
+}
+
+/// The word of a record whose class and fields fit.
+pub fn word(record: &Record) -> u64 {
+    record.word().expect("a record that fits").into()
+}
+
+pub fn with(record: &Record, name: &str, value: u32) -> Record {
+    let mut changed = record.clone();
+    changed.values[record.kind.index(name)] = value;
+    changed
+}
+
+/// The record with every value, that fits, of each of the named fields.
+pub fn sweep(record: &Record, names: &str) -> Vec<Record> {
+    names.split(' ').fold(vec![record.clone()], |records, name| {
+        let values = record.kind.fields[record.kind.index(name)].values();
+        let each = |record: &Record| {
+            let values = 0..values;
+            values.map(|value| with(record, name, value)).collect::<Vec<_>>()
+        };
+        records.iter().flat_map(each).collect()
+    })
+}
+
+/// The record with each field in turn at its smallest and largest value.
+pub fn field_limits(record: &Record) -> Vec<Record> {
+    let limits = record
+        .kind
+        .fields
+        .iter()
+        .flat_map(|field| [0, field.values() - 1].map(|value| with(record, field.name, value)));
+    limits.collect()
+}
+
+/// The record with each number in turn too large for its place: by one, by a
+/// bit above it with a value below that might look right, and by far.
+pub fn fields_too_large(record: &Record) -> Vec<Record> {
+    let mut records = Vec::new();
+    for (field, &value) in record.kind.fields.iter().zip(&record.values) {
+        if field.width() > 1 {
+            let large = [field.values(), field.values() + value, 0x8000_0000 + value, u32::MAX];
+            records.extend(large.map(|value| with(record, field.name, value)));
+        }
+    }
+    records
+}
+
+/// The rules that tie fields of classes other than aborts to each other.
+pub fn tied_fields() -> Vec<Record> {
+    let mut records = Vec::new();
+    for sample in samples().filter(|sample| sample.kind.has("COND")) {
+        records.extend(sweep(&sample, "CV COND"));
+    }
+    let ldc = record(&[4, 1, 1, 0xe, 0x81, 0x11, 1, 0, 0]);
+    records.extend(sweep(&ldc, "AM Direction CV Offset"));
+    records.extend(sweep(&record(&[7, 1, 0, 0, 0]), "CCKNOWNPASS CV COND"));
+    records
+}
+
+/// A record of random fields that fit.
+pub fn random_record(random: &mut Random, form: &Form) -> Record {
+    let kind: &'static Kind = &form.kinds[random.below(form.kinds.len() as u64) as usize];
+    let class = random.pick(kind.classes).into();
+    let value = |field: &crate::form::Field| random.below(field.values().into()) as u32;
+    let values = kind.fields.iter().map(value).collect();
+    Record { kind, class, values }
+}
