@@ -15,7 +15,7 @@ use Rattle.guest.specs.declared.injector.Injected.{Injected}
 use Rattle.guest.specs.Answer.{answerNumber, listed, injectionList}
 use Rattle.guest.specs.Tests.{aligned, writable, addressFits, injectionTests, injectionNumbers}
 use Rattle.guest.specs.Inject.{guestAfter, injectionAnswer, resulting, injected}
-use Rattle.guest.specs.Promise.{InjectPromise}
+use Rattle.guest.specs.Promise.{Promise}
 
 -- ---- the first test that fails gives the number
 
@@ -24,7 +24,7 @@ unfolding injectionAnswer
 number-decided s i = decide-relabel answerNumber (injectionTests s i) Accepted
 
 -- what the calls promise of the answer and the state, by their equation alone
-pub promised : (s : Guest) (i : Injection) {r : Injected} → r ≡ injected s i → InjectPromise s i r
+pub promised : (s : Guest) (i : Injection) {r : Injected} → r ≡ injected s i → Promise s i r
 unfolding injected
 promised s i e =
     record { result = e; number = ap (λ (r : Injected). answerNumber (r .answer)) e ∙ number-decided s i; mask = refl; count = refl }

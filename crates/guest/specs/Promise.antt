@@ -9,7 +9,7 @@ use Rattle.guest.specs.Answer.{answerNumber, answerMask, answerCount}
 use Rattle.guest.specs.Tests.{injectionNumbers}
 use Rattle.guest.specs.Inject.{injected}
 
-pub record InjectPromise (s : Guest) (i : Injection) (r : Injected) : Type 0 where
+pub record Promise (s : Guest) (i : Injection) (r : Injected) : Type 0 where
   pub result : r ≡ injected s i
   pub number : answerNumber (r .answer) ≡ decide (injectionNumbers s i) 0
   pub mask : answerMask (r .answer) ≡ 0

@@ -1,5 +1,5 @@
 // The one guest state that the monitor keeps, lent to the calls that change it.
-ghost use Rattle.guest.specs.Promise.{InjectPromise};
+ghost use Rattle.guest.specs.Promise.{Promise};
 ghost use Rattle.device.specs.Promise.{FinishPromise};
 use device::finish;
 use guest::Guest;
@@ -9,7 +9,7 @@ use record::Record;
 
 // Injects into the state where it lies: answer and state are those of the call by value, on a refusal too.
 pub fn inject_in_place(state: &mut Guest, what: Injection) -> guest::Answer
-    ensures { λ r. ⌜ InjectPromise (now (state .entry)) what (record { answer = r; state = now (state .exit) }) ⌝ }
+    ensures { λ r. ⌜ Promise (now (state .entry)) what (record { answer = r; state = now (state .exit) }) ⌝ }
 {
     let after = inject(*state, what);
     *state = after.state;
