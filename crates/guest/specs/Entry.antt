@@ -1,8 +1,6 @@
 -- Exception entry (01, 'Guest state and the five injections'; 003; 02, C-15): the whole state that the handler finds.
 use Prim.Native.Nat.{ℕ, _+_, _%_, _^_}
 use mathlib.Core.Bool.{Bool, cond}
-use mathlib.Core.List.{List}
-use lib.ListN.{set}
 use Rattle.bits.specs.Field.{bitOf}
 use Rattle.status.specs.declared.Mode.{Mode}
 use Rattle.status.specs.declared.Mode.the-variants.{Supervisor, Abort, Undefined}
@@ -12,7 +10,7 @@ use Rattle.guest.specs.declared.state.FaultRegisters.{FaultRegisters}
 use Rattle.guest.specs.declared.state.Guest.{Guest}
 use Rattle.guest.specs.declared.link.Correction.{Correction}
 use Rattle.guest.specs.declared.injection.Row.{Row}
-use Rattle.guest.specs.State.{changed}
+use Rattle.guest.specs.State.{withRegister, changed}
 use Rattle.guest.specs.Link.{signed, linkOf}
 
 -- the base of the vector table: 0xFFFF0000 where SCTLR.V, bit 13, is 1, else VBAR
@@ -26,10 +24,6 @@ correctionIn row t = cond t (row .t32) (row .a32)
 -- the link, from the old PC and the old T bit
 abbrev pub linkFrom : Guest → Row → ℕ
 linkFrom s row = linkOf (s .pc) (signed (correctionIn row (t32 (s .status))))
-
--- the registers with another value in register n
-abbrev pub withRegister : List ℕ → ℕ → ℕ → List ℕ
-withRegister regs n value = set regs n value
 
 -- the mode's saved status is the given word; the others stay
 abbrev pub savedIn : Mode → Saved → ℕ → Saved

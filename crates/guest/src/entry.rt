@@ -1,6 +1,6 @@
 // Exception entry: the one place that changes the guest's mode.
 ghost use mathlib.Core.Path.{_≡_};
-ghost use Rattle.guest.specs.Entry.{vectorBase, correctionIn, withRegister, savedIn, entered};
+ghost use Rattle.guest.specs.Entry.{vectorBase, correctionIn, savedIn, entered};
 ghost use Rattle.guest.specs.Tests.{aligned};
 use crate::injection::Row;
 use crate::link::Correction;
@@ -8,6 +8,7 @@ use crate::link::link_of;
 use crate::state::FaultRegisters;
 use crate::state::Guest;
 use crate::state::Saved;
+use crate::state::with_register;
 use bits::bit;
 use status::Mode;
 use status::entry_status;
@@ -37,17 +38,6 @@ fn correction_in(row: Row, t32: bool) -> Correction
     ensures { λ r. ⌜ r ≡ correctionIn row t32 ⌝ }
 {
     if t32 { row.t32 } else { row.a32 }
-}
-
-// The registers with a new value in register n; a state has no register from 31 on.
-fn with_register(regs: [u32; 31], n: usize, value: u32) -> [u32; 31]
-    ensures { λ r. ⌜ r ≡ withRegister regs n value ⌝ }
-{
-    let mut after = regs;
-    if n < 31 {
-        after[n] = value;
-    }
-    after
 }
 
 // The saved status words, with `word` as the mode's own.

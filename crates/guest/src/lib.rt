@@ -17,3 +17,5 @@ pub use injector::inject;
 pub use state::FaultRegisters;
 pub use state::Guest;
 pub use state::Saved;
+pub use state::register;
+pub use state::with_register;

@@ -1,4 +1,6 @@
 // What the monitor keeps of a guest. Every word is 32 bits wide.
+ghost use mathlib.Core.Path.{_≡_};
+ghost use Rattle.guest.specs.State.{registerIn, withRegister};
 use status::Marks;
 
 // The saved program status registers (SPSR) of the modes that an exception is taken to.
@@ -28,4 +30,22 @@ pub struct Guest {
     pub vbar: u32,
     pub ttbcr: u32,
     pub marks: Marks,
+}
+
+// What register n holds; a state has no register from 31 on.
+pub fn register(regs: [u32; 31], n: usize) -> u32
+    ensures { λ r. ⌜ r ≡ registerIn regs n ⌝ }
+{
+    if n < 31 { regs[n] } else { 0 }
+}
+
+// The registers with a new value in register n.
+pub fn with_register(regs: [u32; 31], n: usize, value: u32) -> [u32; 31]
+    ensures { λ r. ⌜ r ≡ withRegister regs n value ⌝ }
+{
+    let mut after = regs;
+    if n < 31 {
+        after[n] = value;
+    }
+    after
 }

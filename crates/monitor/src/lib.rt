@@ -1,15 +1,26 @@
-// The one guest state that the monitor keeps, lent to an injection.
+// The one guest state that the monitor keeps, lent to the calls that change it.
 ghost use Rattle.guest.specs.Promise.{Promise};
-use guest::Answer;
+ghost use Rattle.device.specs.Promise.{FinishPromise};
+use device::finish;
 use guest::Guest;
 use guest::Injection;
 use guest::inject;
+use record::Record;
 
 // Injects into the state where it lies: answer and state are those of the call by value, on a refusal too.
-pub fn inject_in_place(state: &mut Guest, what: Injection) -> Answer
+pub fn inject_in_place(state: &mut Guest, what: Injection) -> guest::Answer
     ensures { λ r. ⌜ Promise (now (state .entry)) what (record { answer = r; state = now (state .exit) }) ⌝ }
 {
     let after = inject(*state, what);
     *state = after.state;
     after.answer
+}
+
+// Finishes a load or store of the state where it lies, in the same way.
+pub fn finish_in_place(state: &mut Guest, what: Record, value: u32) -> device::Answer
+    ensures { λ r. ⌜ FinishPromise (now (state .entry)) what value (record { answer = r; state = now (state .exit) }) ⌝ }
+{
+    let done = finish(*state, what, value);
+    *state = done.state;
+    done.answer
 }

@@ -6,3 +6,4 @@ pub mod Modes
 pub mod Registers
 pub mod Unmarked
 pub mod Saved
+pub mod Advance

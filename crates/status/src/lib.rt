@@ -6,6 +6,7 @@ ghost use Rattle.status.specs.Mode.{isMode, modeNumber};
 ghost use Rattle.status.specs.Sound.{allowed, sound};
 ghost use Rattle.status.specs.Base.{entryA};
 ghost use Rattle.status.specs.Entry.{t32, entryPan, entrySsbs, entryStatus};
+ghost use Rattle.status.specs.It.{itOf, itAdvance, withIt, itAdvanced};
 ghost use Rattle.status.specs.Spsr.{spsrStatus, SpsrPromise};
 ghost use Rattle.status.specs.Register.{byMode, numberIn, heldIn};
 use bits::bit;
@@ -215,4 +216,39 @@ pub fn from_spsr(marks: Marks, spsr: u32) -> FromSpsr
     } else {
         FromSpsr::Unsound
     }
+}
+
+// IT: bits 7:2 of it stand in bits 15:10, and bits 1:0 in 26:25.
+fn it_of(status: u32) -> u32
+    ensures { λ r. ⌜ r ≡ itOf status ⌝ }
+{
+    ((status & 0xFC00) >> 8) | ((status & 0x0600_0000) >> 25)
+}
+
+// AArch32.ITAdvance: the block ends when its last instruction is done, and else the next condition bit comes up.
+fn it_advance(it: u32) -> u32
+    ensures { λ r. ⌜ r ≡ itAdvance it ⌝ }
+{
+    if it & 0x7 == 0 {
+        0
+    } else {
+        (it & 0xE0) | ((it & 0xF) << 1)
+    }
+}
+
+fn with_it(status: u32, it: u32) -> u32
+    ensures { λ r. ⌜ r ≡ withIt status it ⌝ }
+{
+    (status & 0xF800_0000)
+        | ((it & 0x3) << 25)
+        | (status & 0x01FF_0000)
+        | ((it & 0xFC) << 8)
+        | (status & 0x3FF)
+}
+
+// The status word after an instruction that is done.
+pub fn it_advanced(status: u32) -> u32
+    ensures { λ r. ⌜ r ≡ itAdvanced status ⌝ }
+{
+    with_it(status, it_advance(it_of(status)))
 }

@@ -4,18 +4,18 @@ use mathlib.Core.Bool.{Bool}
 use mathlib.Core.List.{List}
 use Prim.Native.Nat.{ℕ, _+_, _%_, _^_}
 use borrow.Author.Needs.{needs}
-use Rattle.guest.proofs.entry.enter.Tie as tie
 use Rattle.status.specs.Entry.{t32, entryStatus}
 use Rattle.guest.specs.declared.link.Correction.{Correction}
 use Rattle.guest.specs.declared.injection.Row.{Row}
 use Rattle.guest.specs.declared.state.FaultRegisters.{FaultRegisters}
 use Rattle.guest.specs.declared.state.Guest.{Guest}
 use Rattle.guest.specs.declared.state.Saved.{Saved}
-use Rattle.guest.specs.State.{changed}
+use Rattle.guest.specs.State.{withRegister, changed}
 use Rattle.guest.specs.Link.{signed, linkOf}
-use Rattle.guest.specs.Entry.{vectorBase, correctionIn, linkFrom, withRegister, savedIn, entered}
+use Rattle.guest.specs.Entry.{vectorBase, correctionIn, linkFrom, savedIn, entered}
 use Rattle.guest.proofs.Changed.{changed-same}
 use Rattle.guest.proofs.entry.enter.Statement.{statement}
+use Rattle.guest.proofs.entry.enter.Tie as tie
 
 module _ (s : Guest) (row : Row) (faults : FaultRegisters) where
   link : {b : Bool} {k : Correction} {l : ℕ} → b ≡ t32 (s .status) → k ≡ correctionIn row b → l ≡ linkOf (s .pc) (signed k) → l ≡ linkFrom s row

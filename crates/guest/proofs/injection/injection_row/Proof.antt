@@ -1,9 +1,9 @@
 -- `guest::injection::injection_row` meets its contract: each arm makes the table's row of its injection.
 use borrow.Author.Needs.{needs}
-use Rattle.guest.proofs.injection.injection_row.Tie as tie
 use Rattle.bits.proofs.Arms.{told}
 use Rattle.guest.specs.Injection.{injectionRow}
 use Rattle.guest.proofs.injection.injection_row.Statement.{statement}
+use Rattle.guest.proofs.injection.injection_row.Tie as tie
 
 enum-told : tie.Need-enum-told
 enum-told c = search needs

@@ -1,10 +1,10 @@
 -- `guest::report::access_report` meets its contract: each way through its tests is the definition's.
 use borrow.Author.Tests.{lt-ltb, le-ltb}
 use borrow.Author.Needs.{needs}
-use Rattle.guest.proofs.report.access_report.Tie as tie
 use Rattle.guest.specs.Inject.{accessWrites}
 use Rattle.guest.proofs.Reports.{written, wide, unwritable}
 use Rattle.guest.proofs.report.access_report.Statement.{statement}
+use Rattle.guest.proofs.report.access_report.Tie as tie
 
 dfsr-word-requires : tie.Need-dfsr-word-requires
 dfsr-word-requires c κs = search needs

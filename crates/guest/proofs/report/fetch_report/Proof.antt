@@ -1,10 +1,10 @@
 -- `guest::report::fetch_report` meets its contract: each way through its tests is the definition's.
 use borrow.Author.Tests.{lt-ltb, le-ltb}
 use borrow.Author.Needs.{needs}
-use Rattle.guest.proofs.report.fetch_report.Tie as tie
 use Rattle.guest.specs.Inject.{fetchWrites}
 use Rattle.guest.proofs.Reports.{written, wide, unwritable}
 use Rattle.guest.proofs.report.fetch_report.Statement.{statement}
+use Rattle.guest.proofs.report.fetch_report.Tie as tie
 
 ifsr-word-requires : tie.Need-ifsr-word-requires
 ifsr-word-requires c κs = search needs

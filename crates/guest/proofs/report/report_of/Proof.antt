@@ -2,13 +2,13 @@
 use mathlib.Core.Path.{_≡_}
 use Prim.Native.Nat.{ℕ}
 use borrow.Author.Needs.{needs}
-use Rattle.guest.proofs.report.report_of.Tie as tie
 use Rattle.bits.proofs.Arms.{at-arm, told}
 use Rattle.guest.specs.declared.injection.Injection.{Injection}
 use Rattle.guest.specs.declared.state.FaultRegisters.{FaultRegisters}
 use Rattle.guest.specs.declared.report.Report.{Report}
 use Rattle.guest.specs.Inner.{reportOf}
 use Rattle.guest.proofs.report.report_of.Statement.{statement}
+use Rattle.guest.proofs.report.report_of.Tie as tie
 
 at : (old : FaultRegisters) (ttbcr : ℕ) {i j : Injection} → i ≡ j → reportOf j old ttbcr ≡ reportOf i old ttbcr
 at old ttbcr = told (λ (i : Injection). reportOf i old ttbcr)

@@ -1,10 +1,10 @@
--- `guest::entry::with_register` meets its contract: past the last register `set` changes nothing.
+-- `guest::state::with_register` meets its contract: past the last register `set` changes nothing.
 use mathlib.Core.Path.{sym}
 use native.Mathlib.Omega.{arith}
 use lib.Seq.{set-out}
 use borrow.Author.Needs.{needs}
-use Rattle.guest.proofs.entry.with_register.Tie as tie
-use Rattle.guest.proofs.entry.with_register.Statement.{statement}
+use Rattle.guest.proofs.state.with_register.Statement.{statement}
+use Rattle.guest.proofs.state.with_register.Tie as tie
 
 mul-after : tie.Need-mul-after
 mul-after c = search needs

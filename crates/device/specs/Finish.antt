@@ -1,0 +1,104 @@
+-- A load or store that is finished (02, C-17): the answer, and the whole state after it.
+use Prim.Native.Nat.{ℕ, _+_, _%_, _^_}
+use mathlib.Core.Bool.{Bool, true, false, not, cond}
+use mathlib.Core.List.{List, [], _∷_}
+use lib.Dec.{eqb}
+use Rattle.bits.specs.Decide.{Test, needs, decide}
+use Rattle.bits.specs.Field.{bitOf}
+use Rattle.record.specs.declared.kinds.DataAbort.{DataAbort}
+use Rattle.record.specs.declared.kinds.Record.{Record}
+use Rattle.rule.specs.Has.{editionsOf}
+use Rattle.status.specs.Sound.{sound}
+use Rattle.status.specs.It.{itAdvanced}
+use Rattle.guest.specs.declared.state.Guest.{Guest}
+use Rattle.guest.specs.State.{registerIn, withRegister, changed}
+use Rattle.device.specs.declared.answer.Answer.{Answer}
+use Rattle.device.specs.declared.answer.Answer.the-variants.{Loaded, Stored, NoEdition, UnsoundStatus, NotDescribed}
+use Rattle.device.specs.declared.access.Described.{Described}
+use Rattle.device.specs.declared.access.Described.the-variants.{Access, Nothing}
+use Rattle.device.specs.declared.access.Finished.{Finished}
+use Rattle.device.specs.Data.{transferred, extended}
+
+-- ---- the tests
+
+-- 5: some edition has the record
+abbrev pub had : Record → Bool
+had r = not (eqb (editionsOf r) 0)
+
+-- 18: a data abort with ISV 1 describes its access, and no other record does
+abbrev pub describedOf : Record → Described
+describedOf (Record.Plain r) = Nothing
+describedOf (Record.Wfx r) = Nothing
+describedOf (Record.Mcr r) = Nothing
+describedOf (Record.Mcrr r) = Nothing
+describedOf (Record.Ldc r) = Nothing
+describedOf (Record.Simd r) = Nothing
+describedOf (Record.Call r) = Nothing
+describedOf (Record.Smc r) = Nothing
+describedOf (Record.InstructionAbort r) = Nothing
+describedOf (Record.DataAbort r) = cond (r .isv) (Access r) Nothing
+
+abbrev pub isAccess : Described → Bool
+isAccess (Access r) = true
+isAccess Nothing = false
+
+-- the tests in their order, each with its number; 0 comes where none fails
+abbrev pub accessNumbers : Guest → Record → List (Test ℕ)
+accessNumbers s r =
+    needs (had r) 5
+    ∷ needs (sound (s .marks) (s .status)) 9
+    ∷ needs (isAccess (describedOf r)) 18
+    ∷ []
+
+-- ---- the access
+
+-- IL: the instruction is 4 or 2 bytes long
+abbrev pub bytesOf : Bool → ℕ
+bytesOf il = cond il 4 2
+
+-- E: the guest's data is big-endian
+abbrev pub bigEndian : ℕ → Bool
+bigEndian w = bitOf w 9
+
+-- the state past the instruction, with these registers: PC moves, IT advances, and nothing else changes
+unfoldable pub stepped : Guest → List ℕ → Bool → Guest
+stepped s regs il = changed s regs ((s .pc + bytesOf il) % 2 ^ 32) (itAdvanced (s .status)) (s .saved) (s .faults)
+
+-- a store gives the device the register's low bits, and a load puts the device's value into the register
+abbrev pub stored : Guest → DataAbort → Finished
+stored s r =
+    record {
+      answer = Stored (transferred (r .sas) (bigEndian (s .status)) (registerIn (s .regs) (r .srt)));
+      state = stepped s (s .regs) (r .il);
+    }
+
+abbrev pub loaded : Guest → DataAbort → ℕ → Finished
+loaded s r value =
+    record {
+      answer = Loaded;
+      state =
+          stepped s
+          (withRegister (s .regs) (r .srt) (extended (r .sas) (r .sse) (transferred (r .sas) (bigEndian (s .status)) value)))
+          (r .il);
+    }
+
+unfoldable pub accessed : Guest → DataAbort → ℕ → Finished
+accessed s r value = cond (r .wnr) (stored s r) (loaded s r value)
+
+-- ---- the call
+
+-- a refusal gives back the state as it came
+abbrev pub refusing : Answer → Guest → Finished
+refusing a s = record { answer = a; state = s }
+
+abbrev pub byDescription : Guest → Described → ℕ → Finished
+byDescription s (Access r) value = accessed s r value
+byDescription s Nothing value = refusing NotDescribed s
+
+unfoldable pub finished : Guest → Record → ℕ → Finished
+finished s r value =
+    decide
+    (needs (had r) (refusing NoEdition s)
+    ∷ needs (sound (s .marks) (s .status)) (refusing UnsoundStatus s)
+    ∷ [])
+    (byDescription s (describedOf r) value)

@@ -1,0 +1,117 @@
+// An access finished, by value.
+ghost use mathlib.Core.Path.{_≡_};
+ghost use Rattle.device.specs.Finish.{describedOf, bytesOf, stepped, accessed};
+ghost use Rattle.device.specs.Promise.{FinishPromise};
+use crate::answer::Answer;
+use crate::data::extended;
+use crate::data::transferred;
+use bits::bit;
+use guest::Guest;
+use guest::register;
+use guest::with_register;
+use record::DataAbort;
+use record::Record;
+use status::it_advanced;
+use status::sound;
+use std::num::wrapping_add_u32;
+
+pub struct Finished {
+    pub answer: Answer,
+    pub state: Guest,
+}
+
+// The access that a record describes: that of a data abort with ISV 1.
+pub(crate) enum Described {
+    Access(DataAbort),
+    Nothing,
+}
+
+fn described_of(what: Record) -> Described
+    ensures { λ r. ⌜ r ≡ describedOf what ⌝ }
+{
+    match what {
+        Record::Plain(_) => Described::Nothing,
+        Record::Wfx(_) => Described::Nothing,
+        Record::Mcr(_) => Described::Nothing,
+        Record::Mcrr(_) => Described::Nothing,
+        Record::Ldc(_) => Described::Nothing,
+        Record::Simd(_) => Described::Nothing,
+        Record::Call(_) => Described::Nothing,
+        Record::Smc(_) => Described::Nothing,
+        Record::InstructionAbort(_) => Described::Nothing,
+        Record::DataAbort(abort) => {
+            if abort.isv {
+                Described::Access(abort)
+            } else {
+                Described::Nothing
+            }
+        }
+    }
+}
+
+// The length of the instruction, which IL tells, whatever T is.
+fn bytes_of(il: bool) -> u32
+    ensures { λ r. ⌜ r ≡ bytesOf il ⌝ }
+{
+    if il { 4 } else { 2 }
+}
+
+// The state past the instruction, with these registers.
+fn stepped(state: Guest, regs: [u32; 31], il: bool) -> Guest
+    ensures { λ r. ⌜ r ≡ stepped state regs il ⌝ }
+{
+    let mut after = state;
+    after.regs = regs;
+    after.pc = wrapping_add_u32(state.pc, bytes_of(il));
+    after.status = it_advanced(state.status);
+    after
+}
+
+fn accessed(state: Guest, abort: DataAbort, value: u32) -> Finished
+    ensures { λ r. ⌜ r ≡ accessed state abort value ⌝ }
+{
+    let regs = state.regs;
+    let big = bit(state.status as u64, 9);
+    let srt = abort.srt as usize;
+    if abort.wnr {
+        let given = transferred(abort.sas, big, register(regs, srt));
+        let after = stepped(state, regs, abort.il);
+        Finished {
+            answer: Answer::Stored(given),
+            state: after,
+        }
+    } else {
+        let got = extended(abort.sas, abort.sse, transferred(abort.sas, big, value));
+        let after = stepped(state, with_register(regs, srt, got), abort.il);
+        Finished {
+            answer: Answer::Loaded,
+            state: after,
+        }
+    }
+}
+
+// The answer, with the state after it: a refusal's is the state that came. A store doesn't look at the value.
+pub fn finish(state: Guest, what: Record, value: u32) -> Finished
+    ensures { λ r. ⌜ FinishPromise state what value r ⌝ }
+{
+    if rule::editions(what) == 0 {
+        return Finished {
+            answer: Answer::NoEdition,
+            state,
+        };
+    }
+    let marks = state.marks;
+    if !sound(marks, state.status) {
+        return Finished {
+            answer: Answer::UnsoundStatus,
+            state,
+        };
+    }
+    match described_of(what) {
+        Described::Nothing => Finished {
+            answer: Answer::NotDescribed,
+            state,
+        },
+        Described::Access(abort) => accessed(state, abort, value),
+    }
+}
