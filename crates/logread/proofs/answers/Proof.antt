@@ -12,7 +12,7 @@ abbrev Inv-loop : tie.InvT-loop
 Inv-loop line₀ seen esr far hpfar e₀ line e = length line ≡ length line₀
 
 abbrev μ-loop : tie.MeasureT-loop
-μ-loop line₀ seen esr far hpfar e₀ line e = 8 - e
+μ-loop line₀ seen esr far hpfar e₀ line e = 16 - e
 
 loop-holds : tie.Need-loop-holds Inv-loop μ-loop
 loop-holds c = refl
