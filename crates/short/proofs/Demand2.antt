@@ -1,4 +1,4 @@
--- Demand 2 for words: in each edition a syndrome is taken exactly when some record that the edition has writes to it, and writing that record gives the
+-- Demand 2 for words: in each short edition a word is taken exactly when some record that the edition has writes to it, and writing that record gives the
 -- same word.
 -- Assumes nothing.
 use mathlib.Core.Path.{_≡_, refl, ap}

@@ -42,7 +42,7 @@ fn word_il(word: u64) -> bool
     )
 }
 
-// Reads a syndrome word in an edition.
+// Reads a word in a short edition.
 pub fn read(edition: u32, hsr: Hsr) -> Read
     ensures { λ a. ⌜ Reading edition hsr a ⌝ }
 {
@@ -63,7 +63,7 @@ pub fn read(edition: u32, hsr: Hsr) -> Read
     }
 }
 
-// Writes a record in an edition.
+// Writes a record in a short edition.
 pub fn write(edition: u32, r: Record) -> Written
     ensures { λ a. ⌜ Writing edition r a ⌝ }
 {
