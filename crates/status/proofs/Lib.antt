@@ -2,3 +2,5 @@
 pub mod Masks
 pub mod Fields
 pub mod Again
+pub mod Modes
+pub mod Registers

@@ -2,3 +2,4 @@
 pub mod Mode
 pub mod Sound
 pub mod Entry
+pub mod Register

@@ -1,9 +1,10 @@
 // The status word (CPSR) of an AArch32 guest: which words are sound, and the word that an exception's handler finds.
 ghost use mathlib.Core.Path.{_≡_};
 ghost use Prim.Native.Nat.{_*_, _^_};
-ghost use Rattle.status.specs.Mode.{modeNumber};
+ghost use Rattle.status.specs.Mode.{isMode, modeNumber};
 ghost use Rattle.status.specs.Sound.{sound};
 ghost use Rattle.status.specs.Entry.{t32, entryA, entryStatus};
+ghost use Rattle.status.specs.Register.{byMode, numberIn, heldIn};
 use bits::bit;
 
 // The modes that an injection enters.
@@ -11,6 +12,12 @@ pub enum Mode {
     Supervisor,
     Abort,
     Undefined,
+}
+
+// Where a register of the guest is held: its AArch64 number.
+pub enum Held {
+    Register(u32),
+    Nowhere,
 }
 
 // Bit m is set for each mode m that a guest runs in.
@@ -80,4 +87,51 @@ pub fn entry_status(mode: Mode, a: bool, old: u32, sctlr: u32) -> u32
         | (old & F)
         | ((sctlr & TE) >> 25)
         | mode_number(mode)
+}
+
+// Whether the number is that of a mode that a guest runs in.
+pub fn is_mode(mode: u32) -> bool
+    ensures { λ r. ⌜ r ≡ isMode mode ⌝ }
+{
+    bit(MODES, mode)
+}
+
+// What a mode has of its own; User and System share the last.
+fn by_mode(mode: u32, fiq: u32, irq: u32, svc: u32, abt: u32, und: u32, usr: u32) -> u32
+    ensures { λ r. ⌜ r ≡ byMode mode fiq irq svc abt und usr ⌝ }
+{
+    match mode {
+        0x11 => fiq,
+        0x12 => irq,
+        0x13 => svc,
+        0x17 => abt,
+        0x1B => und,
+        _ => usr,
+    }
+}
+
+// The AArch64 number of a register of a mode.
+fn number_in(mode: u32, number: u32) -> u32
+    ensures { λ r. ⌜ r ≡ numberIn mode number ⌝ }
+{
+    if number == 13 {
+        by_mode(mode, 29, 17, 19, 21, 23, 13)
+    } else if number == 14 {
+        by_mode(mode, 30, 16, 18, 20, 22, 14)
+    } else if (mode == 0x11) & (8 <= number) & (number <= 12) {
+        number + 16
+    } else {
+        number
+    }
+}
+
+// Which AArch64 register holds a register of a mode, by the manual's mapping: nowhere above R14, or in a mode that no guest runs in.
+pub fn held_in(mode: u32, number: u32) -> Held
+    ensures { λ r. ⌜ r ≡ heldIn mode number ⌝ }
+{
+    if is_mode(mode) & (number <= 14) {
+        Held::Register(number_in(mode, number))
+    } else {
+        Held::Nowhere
+    }
 }
