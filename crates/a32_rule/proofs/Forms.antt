@@ -55,6 +55,20 @@ encode-exactly f w = (by (legal f) refl, λ h. encode-word f (h .0) ∙ ap Encod
     by true h t = let q = encode-word f h in (h, cc (t, q))
     by false h t = let q = encode-refused f h in absurd-answer (cc (t, q))
 
+-- what a decoded word's answer says of the word
+pub taken-form : (w : ℕ) (f : Fields) → decodeOf w ≡ Decoded.Taken f → (isForm w ≡ true) × (fieldsAt w ≡ f)
+taken-form w f t =
+    let h = decode-exactly w f .0 t in
+    let is = is-form-exactly w .1 (f, h .0, h .1) in
+    (is, Forms.at-record 1 fieldsWord has fieldsAt no-word-test no-fields-test sound 0 f (h .0) w (h .1))
+
+pub refused-form : (w : ℕ) → decodeOf w ≡ Decoded.Refused → isForm w ≡ false
+refused-form w t = by (isForm w) refl
+  where
+    by : (b : Bool) → isForm w ≡ b → isForm w ≡ false
+    by true h = let q = decode-taken w h in absurd-answer (cc (t, q))
+    by false h = h
+
 -- a word is read as some fields exactly when these are written to the same word
 pub decode-as-encode : (w : ℕ) (f : Fields) → (decodeOf w ≡ Decoded.Taken f) ↔ (encodeOf f ≡ Encoded.Word w)
 decode-as-encode w f = (
