@@ -1,5 +1,3 @@
--- Laws of the registers, their number, the change and the call.
-pub mod Lists
-pub mod Counts
+-- Laws of the call.
 pub mod Describing
 pub mod Laws

@@ -1,6 +1,2 @@
 -- A32 loads and stores in a guest's state, by request C-18 of document 02.
-pub mod Transferred
-pub mod Value
-pub mod Place
-pub mod Access
 pub mod Tests

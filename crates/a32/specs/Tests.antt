@@ -1,19 +1,26 @@
 -- Describing an instruction (02, C-18): 9 for an unsound state, then 19 in T32 state, then 19 for a word that is none of these forms.
 use Prim.Native.Nat.{ℕ}
 use mathlib.Core.Path.{_≡_}
-use mathlib.Core.Bool.{Bool, not, cond}
+use mathlib.Core.Bool.{not}
 use mathlib.Core.List.{List, [], _∷_}
+use Rattle.bits.specs.Field.{fieldOf}
 use Rattle.bits.specs.Decide.{Test, needs, decide}
 use Rattle.status.specs.Sound.{sound}
 use Rattle.status.specs.Entry.{t32}
 use Rattle.guest.specs.declared.state.Guest.{Guest}
 use Rattle.a32_fields.specs.Split.{fieldsAt}
+use Rattle.a32_fields.specs.declared.kinds.Fields.{Fields}
 use Rattle.a32_rule.specs.Answer.{isForm}
-use Rattle.a32.specs.Transferred.{registersOf, padded}
-use Rattle.a32.specs.Access.{accessOf}
+use Rattle.a32_access.specs.Transferred.{registersOf, padded}
+use Rattle.a32_access.specs.Access.{accessIn}
+use Rattle.a32_access.specs.declared.access.Access.{Access}
 use Rattle.a32.specs.declared.instruction.Answer.{Answer}
 use Rattle.a32.specs.declared.instruction.Answer.the-variants.{Taken, UnsoundStatus, NoForm}
 use Rattle.a32.specs.declared.instruction.Described.{Described}
+
+-- what a load or store does in a state, whose mode is M, bits 4:0 of the status word
+abbrev pub accessOf : Guest → Fields → Access
+accessOf s f = accessIn (s .regs) (s .pc) (fieldOf (s .status) 4 0) f
 
 abbrev pub answerNumber : Answer → ℕ
 answerNumber (Taken a) = 0

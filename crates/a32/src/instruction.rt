@@ -1,8 +1,8 @@
 // The call over a guest's state.
 ghost use Rattle.a32.specs.Tests.{Describing};
-use crate::access::Access;
-use crate::access::access_in;
-use crate::registers::registers;
+use a32_access::Access;
+use a32_access::access_in;
+use a32_access::registers_of;
 use a32_rule::Decoded;
 use a32_rule::decode;
 use bits::field32;
@@ -44,7 +44,7 @@ pub fn describe(state: Guest, word: u32) -> Described
     match decode(word) {
         Decoded::Taken(f) => {
             let regs = state.regs;
-            let numbers = registers(f);
+            let numbers = registers_of(f);
             let a = access_in(regs, state.pc, field32(state.status as u64, 4, 0), f);
             Described {
                 answer: Answer::Taken(a),

@@ -7,19 +7,16 @@ use mathlib.Core.Bool.{Bool, true, not, _&&_}
 use lib.Dec.{T, eqb, ltb}
 use Rattle.bits.specs.Layout.{fitting}
 use Rattle.bits.proofs.Booleans.{and-left, and-right, holds}
-use Rattle.a32_fields.specs.Code.{codeOf, loads}
+use Rattle.a32_fields.specs.Code.{loads}
 use Rattle.a32_fields.specs.Layout.{fieldsOf}
-use Rattle.a32_fields.specs.declared.kinds.Immediate.{Immediate}
-use Rattle.a32_fields.specs.declared.kinds.Register.{Register}
-use Rattle.a32_fields.specs.declared.kinds.Literal.{Literal}
 use Rattle.a32_fields.specs.declared.kinds.Multiple.{Multiple}
 use Rattle.a32_fields.specs.declared.kinds.Fields.{Fields}
 use Rattle.a32_fields.proofs.RoundTrip.{ownForm}
 use Rattle.a32_rule.specs.Rule.{indexing, writesBack, backRule, immediateRule}
 use Rattle.a32_rule.specs.Legal.{conditionOf, formRule, legal}
-use Rattle.a32_rule.specs.Inner.{immediateFits, targetRule, transferredBy}
+use Rattle.a32_rule.specs.Inner.{targetRule, transferredBy}
 use Rattle.a32_rule.proofs.Rules.{immediate-by, literal-by}
-use Rattle.a32_rule.proofs.Fits.{legal-immediate, legal-register, legal-literal, legal-multiple}
+use Rattle.a32_rule.proofs.Fits.{legal-multiple}
 
 own-by-rule : (f : Fields) → formRule f ≡ true → ownForm f ≡ true
 own-by-rule (Fields.Immediate r) h =
@@ -48,26 +45,6 @@ module _ (f : Fields) (h : legal f ≡ true) where
 
   pub legal-own : ownForm f ≡ true
   legal-own = own-by-rule f legal-rule
-
--- Rt of legal fields is one of the 16 registers
-second-last : (a b d e : Bool) → (a && b && d && e) ≡ true → b ≡ true
-second-last a b d e h = and-right a b (and-left (a && b) d (and-left (a && b && d) e h))
-
-pub immediate-rt : (r : Immediate) → legal (Fields.Immediate r) ≡ true → r .rt < 16
-immediate-rt r h =
-    ltb-true (r .rt) 16
-    (second-last (ltb (r .cond) 15 && ltb (r .rn) 16) (ltb (r .rt) 16) (immediateFits (codeOf (r .transfer)) (r .imm)) (formRule (Fields.Immediate r))
-    (sym (legal-immediate r) ∙ h))
-
-pub register-rt : (r : Register) → legal (Fields.Register r) ≡ true → r .rt < 16
-register-rt r h =
-    ltb-true (r .rt) 16
-    (second-last (ltb (r .cond) 15 && ltb (r .rn) 16) (ltb (r .rt) 16) (ltb (r .rm) 16) (formRule (Fields.Register r)) (sym (legal-register r) ∙ h))
-
-pub literal-rt : (r : Literal) → legal (Fields.Literal r) ≡ true → r .rt < 16
-literal-rt r h =
-    ltb-true (r .rt) 16
-    (second-last (ltb (r .cond) 15) (ltb (r .rt) 16) (immediateFits (codeOf (r .transfer)) (r .imm)) (formRule (Fields.Literal r)) (sym (legal-literal r) ∙ h))
 
 -- a legal list names registers below 16
 pub multiple-list : (r : Multiple) → legal (Fields.Multiple r) ≡ true → r .list < 65536

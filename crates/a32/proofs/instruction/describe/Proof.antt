@@ -3,7 +3,7 @@
 use borrow.Author.Needs.{needs}
 use mathlib.Core.Path.{_∙_, sym}
 use borrow.Author.Tests.{not-true, not-false}
-use Rattle.a32.proofs.Describing.{unsound, thumb, unformed, taken, decoded-legal}
+use Rattle.a32.proofs.Describing.{unsound, thumb, unformed, taken}
 use Rattle.a32.proofs.instruction.describe.Statement.{statement}
 use Rattle.a32.proofs.instruction.describe.Tie as tie
 
@@ -30,11 +30,8 @@ decode-requires c κs = search needs
 enum-known-f : tie.Need-enum-known-f
 enum-known-f c = search needs
 
-registers-requires : tie.Need-registers-requires
-registers-requires c κs =
-    let read = c .before .before .before .before in
-    let a = read .before .before .before .before .before .args in
-    decoded-legal (a .word) (read .decode .ensures .answer) (c .before .before .f .given .1)
+registers-of-requires : tie.Need-registers-of-requires
+registers-of-requires c κs = search needs
 
 cast-field32 : tie.Need-cast-field32
 cast-field32 c = search needs
@@ -58,7 +55,7 @@ returns-3 c =
     let a = tested .before .before .args in
     taken (a .state) (a .word) (sym (tested .before .sound .ensures) ∙ not-false _ (tested .if1 .left))
     (sym (set .t32 .ensures) ∙ read .before .if2 .left) (read .decode .ensures .answer) (told .f .given .1) (c .before .field32 .ensures) (c .access-in .ensures)
-    (held .registers .ensures)
+    (held .registers-of .ensures)
 
 returns-4 : tie.Need-returns-4
 returns-4 c =
@@ -79,7 +76,7 @@ describe-spec =
     returns-2
     decode-requires
     enum-known-f
-    registers-requires
+    registers-of-requires
     cast-field32
     field32-requires
     access-in-requires
