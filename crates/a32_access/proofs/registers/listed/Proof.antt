@@ -47,18 +47,18 @@ bit-requires c κs = search needs
 mul-numbers : tie.Need-mul-numbers Inv-loop μ-loop
 mul-numbers c =
     let at = c .before .before .before in
-    let l = few (at .before .args .list) (at .loop .n) (at .loop .count) (at .loop .numbers) (at .loop .inv .1) (at .loop .inv .2) (c .before .before .loop-test .taken) in
+    let l = few (at .before .args .list) (at .loop .n) (at .loop .count) (at .loop .numbers) (at .loop .inv .1) (at .loop .inv .2) (omega arith) in
     omega arith
 
 array-write-numbers : tie.Need-array-write-numbers Inv-loop μ-loop
 array-write-numbers c =
     let at = c .before .before .before in
-    few (at .before .args .list) (at .loop .n) (at .loop .count) (at .loop .numbers) (at .loop .inv .1) (at .loop .inv .2) (c .before .before .loop-test .taken)
+    few (at .before .args .list) (at .loop .n) (at .loop .count) (at .loop .numbers) (at .loop .inv .1) (at .loop .inv .2) (omega arith)
 
 add-count : tie.Need-add-count Inv-loop μ-loop
 add-count c =
     let at = c .before .before .before in
-    let l = few (at .before .args .list) (at .loop .n) (at .loop .count) (at .loop .numbers) (at .loop .inv .1) (at .loop .inv .2) (c .before .before .loop-test .taken) in
+    let l = few (at .before .args .list) (at .loop .n) (at .loop .count) (at .loop .numbers) (at .loop .inv .1) (at .loop .inv .2) (omega arith) in
     omega arith
 
 add-n : tie.Need-add-n Inv-loop μ-loop
