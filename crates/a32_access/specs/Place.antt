@@ -1,0 +1,66 @@
+-- The first address and the change of the base (02, C-18), from the base's value and the size of the offset. U adds the offset, or else subtracts it.
+use Prim.Native.Nat.{ℕ, _-_, _*_}
+use mathlib.Core.Bool.{Bool, true, false, cond}
+use mathlib.Core.List.{List}
+use lib.Count.{ones}
+use lib.IntN.{ℤ, pos, negℤ}
+use Rattle.guest.specs.Link.{linkOf}
+use Rattle.a32_fields.specs.declared.kinds.Fields.{Fields}
+use Rattle.a32_rule.specs.Rule.{writesBack}
+use Rattle.a32_access.specs.Value.{valueOf, literalBase}
+use Rattle.a32_access.specs.declared.place.Change.{Change}
+use Rattle.a32_access.specs.declared.place.Change.the-variants.{Plus, Minus}
+
+-- the value of the base, and the offset: an immediate, a register's value, or 4 for each register of a list
+abbrev pub baseOf : List ℕ → ℕ → ℕ → Fields → ℕ
+baseOf regs pc mode (Fields.Immediate r) = valueOf regs pc mode (r .rn)
+baseOf regs pc mode (Fields.Register r) = valueOf regs pc mode (r .rn)
+baseOf regs pc mode (Fields.Literal r) = literalBase pc
+baseOf regs pc mode (Fields.Multiple r) = valueOf regs pc mode (r .rn)
+
+abbrev pub sizeOf : List ℕ → ℕ → ℕ → Fields → ℕ
+sizeOf regs pc mode (Fields.Immediate r) = r .imm
+sizeOf regs pc mode (Fields.Register r) = valueOf regs pc mode (r .rm)
+sizeOf regs pc mode (Fields.Literal r) = r .imm
+sizeOf regs pc mode (Fields.Multiple r) = 4 * ones (r .list)
+
+abbrev pub upOf : Fields → Bool
+upOf (Fields.Immediate r) = r .u
+upOf (Fields.Register r) = r .u
+upOf (Fields.Literal r) = r .u
+upOf (Fields.Multiple r) = r .u
+
+-- the base is written back
+abbrev pub backOf : Fields → Bool
+backOf (Fields.Immediate r) = writesBack (r .p) (r .w)
+backOf (Fields.Register r) = writesBack (r .p) (r .w)
+backOf (Fields.Literal r) = false
+backOf (Fields.Multiple r) = r .w
+
+-- a list's first address is above the base by 4 (IB) or nothing (IA), or below it by the whole size (DB) or 4 less (DA)
+abbrev pub listDistance : Bool → Bool → ℕ → ℕ
+listDistance p u size = cond u (cond p 4 0) (cond p size (size - 4))
+
+-- how far the first address is from the base: post-indexed, it is the base
+abbrev pub distanceOf : Fields → ℕ → ℕ
+distanceOf (Fields.Immediate r) size = cond (r .p) size 0
+distanceOf (Fields.Register r) size = cond (r .p) size 0
+distanceOf (Fields.Literal r) size = size
+distanceOf (Fields.Multiple r) size = listDistance (r .p) (r .u) size
+
+-- a size, added or subtracted
+abbrev pub signed : Bool → ℕ → ℤ
+signed true n = pos n
+signed false n = negℤ (pos n)
+
+-- THE FIRST ADDRESS, modulo 2^32: the same sum as a link's
+abbrev pub addressOf : Fields → ℕ → ℕ → ℕ
+addressOf f base size = linkOf base (signed (upOf f) (distanceOf f size))
+
+-- THE CHANGE of the base, and the signed number that it is
+abbrev pub changeOf : Fields → ℕ → Change
+changeOf f size = cond (upOf f) (Plus (cond (backOf f) size 0)) (Minus (cond (backOf f) size 0))
+
+abbrev pub changed : Change → ℤ
+changed (Plus n) = pos n
+changed (Minus n) = negℤ (pos n)

@@ -1,0 +1,10 @@
+// What an A32 load or store does with the registers of a mode: which it transfers, how many, from which address on, and what becomes of its base.
+mod access;
+mod place;
+mod registers;
+mod value;
+
+pub use access::Access;
+pub use access::access_in;
+pub use place::Change;
+pub use registers::registers_of;
