@@ -21,7 +21,6 @@ use Rattle.a32.specs.Tests.{accessOf, answerNumber, describeNumbers, des
 use Rattle.a32_access.specs.declared.access.Access.{Access}
 use Rattle.a32.specs.declared.instruction.Answer.{Answer}
 use Rattle.a32.specs.declared.instruction.Answer.the-variants.{Taken, UnsoundStatus, NoForm}
-use Rattle.a32.specs.declared.instruction.Described.{Described}
 
 module _ (s : Guest) (w : ℕ) where
   pub describe-number : answerNumber (describedAnswer s w) ≡ decide (describeNumbers s w) 0

@@ -3,7 +3,7 @@
 use mathlib.Core.Path.{_≡_, refl, _∙_, sym, ap, ap₂}
 use mathlib.Core.Bool.{Bool, true, false, cond}
 use mathlib.Core.List.{[], _∷_}
-use Prim.Native.Nat.{ℕ, zero, suc, _+_, _*_, _/_, _%_, _^_, _<_}
+use Prim.Native.Nat.{ℕ, zero, suc, _+_, _/_, _%_, _^_, _<_}
 use native.Mathlib.Nat.{mod-lt, mod-eq-of-lt, mod-one, add-comm}
 use native.Mathlib.Omega.{arith}
 use lib.Count.{ones, ones-cat}
@@ -16,7 +16,7 @@ use Rattle.a32_fields.specs.declared.kinds.Transfer.{Transfer}
 use Rattle.a32_fields.specs.declared.kinds.Fields.{Fields}
 use Rattle.a32_rule.specs.Legal.{legal}
 use Rattle.a32_rule.proofs.Having.{multiple-list}
-use Rattle.a32_access.specs.Transferred.{transferredFrom, listedBelow, registersOf, numberFrom, countOf}
+use Rattle.a32_access.specs.Transferred.{listedBelow, registersOf, countOf}
 use Rattle.a32_access.proofs.Lists.{length-next}
 
 -- one digit more

@@ -18,11 +18,6 @@ padded-more zero l v = refl
 padded-more (suc k) [] v = refl
 padded-more (suc k) (x ∷ xs) v = ap (λ r. x ∷ r) (padded-more k xs v)
 
-pub length-padded : (k : ℕ) (l : List ℕ) → length (padded k l) ≡ k
-length-padded zero l = refl
-length-padded (suc k) [] = ap suc (length-padded k [])
-length-padded (suc k) (x ∷ xs) = ap suc (length-padded k xs)
-
 module _ (n list : ℕ) where
   next : (b : Bool) → bitOf list n ≡ b → listedBelow (n + 1) list ≡ (listedBelow n list ++ cond b (n ∷ []) [])
   unfolding listedBelow

@@ -1,6 +1,6 @@
 -- The registers of a load or store in transfer order (02, C-18): the lowest first, from the lowest address on.
 use Prim.Native.Nat.{ℕ, zero, suc, _+_, _%_, _^_}
-use mathlib.Core.Bool.{Bool, cond}
+use mathlib.Core.Bool.{cond}
 use mathlib.Core.List.{List, [], _∷_, _++_}
 use lib.Count.{ones}
 use Rattle.bits.specs.Field.{bitOf}

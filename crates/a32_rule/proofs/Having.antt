@@ -3,7 +3,7 @@
 use mathlib.Core.Path.{_≡_, refl, _∙_, sym}
 use Prim.Native.Nat.{_<_}
 use borrow.Author.Tests.{ltb-true}
-use mathlib.Core.Bool.{Bool, true, not, _&&_}
+use mathlib.Core.Bool.{true, not, _&&_}
 use lib.Dec.{T, eqb, ltb}
 use Rattle.bits.specs.Layout.{fitting}
 use Rattle.bits.proofs.Booleans.{and-left, and-right, holds}
@@ -36,10 +36,7 @@ module _ (f : Fields) (h : legal f ≡ true) where
   pub legal-fits : T (fitting (fieldsOf f))
   legal-fits = holds (and-right (not (eqb (conditionOf f) 15)) (fitting (fieldsOf f)) before-rule)
 
-  pub legal-condition : not (eqb (conditionOf f) 15) ≡ true
-  legal-condition = and-left (not (eqb (conditionOf f) 15)) (fitting (fieldsOf f)) before-rule
-
-  pub legal-rule : formRule f ≡ true
+  legal-rule : formRule f ≡ true
   unfolding legal
   legal-rule = and-right (not (eqb (conditionOf f) 15) && fitting (fieldsOf f)) (formRule f) h
 

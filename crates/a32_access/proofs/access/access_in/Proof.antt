@@ -1,10 +1,8 @@
 -- `a32_access::access::access_in` meets its contract: each field is what its call ensures.
 -- Assumes nothing.
 use borrow.Author.Needs.{needs}
-use mathlib.Core.Path.{_≡_, _∙_, ap, ap₂}
-use Prim.Native.Nat.{ℕ}
-use Rattle.a32_fields.specs.declared.kinds.Fields.{Fields}
-use Rattle.a32_access.specs.Place.{baseOf, sizeOf, addressOf, changeOf}
+use mathlib.Core.Path.{_∙_, ap, ap₂}
+use Rattle.a32_access.specs.Place.{addressOf, changeOf}
 use Rattle.a32_access.proofs.access.access_in.Statement.{statement}
 use Rattle.a32_access.proofs.access.access_in.Tie as tie
 

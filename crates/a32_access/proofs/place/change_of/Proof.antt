@@ -6,7 +6,6 @@ use mathlib.Core.Bool.{Bool, cond}
 use Prim.Native.Nat.{ℕ}
 use Rattle.a32_fields.specs.declared.kinds.Fields.{Fields}
 use Rattle.a32_access.specs.Place.{upOf, backOf, changeOf}
-use Rattle.a32_access.specs.declared.place.Change.{Change}
 use Rattle.a32_access.specs.declared.place.Change.the-variants.{Plus, Minus}
 use Rattle.a32_access.proofs.place.change_of.Statement.{statement}
 use Rattle.a32_access.proofs.place.change_of.Tie as tie

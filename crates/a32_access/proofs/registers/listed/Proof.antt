@@ -1,7 +1,7 @@
 -- `a32_access::registers::listed` meets its contract. The invariant: the numbers are the registers of the list below n, and `count` is how many they are.
 -- Assumes nothing.
 use borrow.Author.Needs.{needs}
-use mathlib.Core.Path.{_≡_, refl, _∙_, sym, ap, ap₂, subst}
+use mathlib.Core.Path.{_≡_, refl, _∙_, sym, ap, ap₂}
 use mathlib.Core.Bool.{true, false}
 use mathlib.Core.List.{List}
 use mathlib.Core.Logic.{⊎-elim}
@@ -11,7 +11,7 @@ use lib.Dec.{lit≤}
 use lib.ListN.{length, set}
 use Rattle.bits.specs.Field.{bitOf}
 use Rattle.a32_access.specs.Transferred.{listedBelow, padded}
-use Rattle.a32_access.proofs.Lists.{padded-more, length-padded, length-one-more, listed-in, listed-out, listed-few}
+use Rattle.a32_access.proofs.Lists.{padded-more, length-one-more, listed-in, listed-out, listed-few}
 use Rattle.a32_access.proofs.registers.listed.Statement.{statement}
 use Rattle.a32_access.proofs.registers.listed.Tie as tie
 

@@ -1,7 +1,6 @@
 -- `a32_fields::join::joined` meets its contract: each arm puts its form's fields together.
 -- Assumes nothing.
 use borrow.Author.Needs.{needs}
-use Prim.Native.Nat.{ℕ}
 use Rattle.bits.specs.Inner.{joinedFrom}
 use Rattle.bits.proofs.Arms.{at-arm}
 use Rattle.a32_fields.specs.Layout.{fieldsOf}
