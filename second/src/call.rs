@@ -6,6 +6,7 @@ use crate::form::{Form, Record};
 use crate::guest::{inject, Fault, Injection, State};
 use crate::long::LONG;
 use crate::short::SHORT;
+use crate::status::{from_spsr, Marks};
 use crate::syndrome::{read, word_to_look_up, write, Refusal};
 use crate::trap::{read_both, read_trap, Intermediate, Registers, Trap};
 use crate::widen::{widen, widened};
@@ -51,6 +52,10 @@ pub enum Call {
         lent: bool,
         injection: Injection,
         state: State,
+    },
+    Spsr {
+        marks: Marks,
+        word: u32,
     },
 }
 
@@ -100,6 +105,10 @@ impl Call {
                 let state = State::from_numbers(state)?;
                 Some(Call::Inject { lent: name == b"lent", injection, state })
             }
+            (b"spsr", &[pan @ (0 | 1), ssbs @ (0 | 1), dit @ (0 | 1), word]) => {
+                let marks = Marks { pan: pan == 1, ssbs: ssbs == 1, dit: dit == 1 };
+                Some(Call::Spsr { marks, word: narrow(word)? })
+            }
             _ => None,
         }
     }
@@ -127,6 +136,9 @@ impl Call {
                 let name = if *lent { "lent" } else { "inject" };
                 (name, [injection_row(injection), state.numbers()].concat())
             }
+            Call::Spsr { marks: Marks { pan, ssbs, dit }, word } => {
+                ("spsr", row![*pan, *ssbs, *dit, *word])
+            }
         };
         format!("{name} {}", text(&numbers))
     }
@@ -152,7 +164,7 @@ impl Call {
                 words.short.extend(record.word());
                 words.long.extend(widened(*mode, record).and_then(|wide| wide.word()));
             }
-            Call::Inject { .. } => {}
+            Call::Inject { .. } | Call::Spsr { .. } => {}
         }
     }
 
@@ -191,6 +203,9 @@ impl Call {
                 Ok(after) => [row![0u8], after.numbers()].concat(),
                 Err(refusal) => [row![refusal], state.numbers()].concat(),
             },
+            Call::Spsr { marks, word } => {
+                answered(from_spsr(marks, *word).map(|status| row![status]).map_err(Refusal::plain))
+            }
         }
     }
 }
@@ -349,7 +364,7 @@ mod tests {
 
     #[test]
     fn a_line_that_is_no_row_says_so() {
-        let state = " 0".repeat(45);
+        let state = " 0".repeat(48);
         let bad = [
             "".to_string(),
             "read".into(),
@@ -375,6 +390,11 @@ mod tests {
             format!("inject 4 1 1 0 2{state}"),
             format!("inject 5 0 0 0 0{state}"),
             format!("inject 0 0 0 0 0{state} 0"),
+            format!("inject 0 0 0 0 0{} 0 0 2", " 0".repeat(45)),
+            format!("inject 0 0 0 0 0{}", " 0".repeat(45)),
+            "spsr 0 2 0 10".into(),
+            "spsr 0 0 0 100000000".into(),
+            "spsr 0 0 10".into(),
         ];
         for line in bad {
             assert!(Call::parse(line.as_bytes()).is_none(), "{line}");
@@ -391,6 +411,7 @@ mod tests {
             "both 0 8 1 2 3",
             "carry 1 2 5 1 0 f",
             "widen 1f 0 22 0",
+            "spsr 1 0 1 1000010",
         ] {
             assert_eq!(Call::parse(line.as_bytes()).expect("a row").line(), line);
         }

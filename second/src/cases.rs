@@ -5,6 +5,7 @@ use crate::call::{answers, lines, text, Call};
 use crate::form::Record;
 use crate::guest::{Fault, Injection, State};
 use crate::long::LONG;
+use crate::status::Marks;
 use crate::trap::Registers;
 
 /// A word and the answer to reading it. A case that names no edition holds in
@@ -90,25 +91,26 @@ struct InjectionCase {
     after: State,
 }
 
-/// A state whose numbers all differ, so that one put in the wrong place is
-/// seen. What the paper gives is set over it.
+/// A state whose numbers are short and all differ, so that one put in the wrong place is
+/// seen, and which has no mark. What the paper gives is set over it.
 pub fn state(status: u32, pc: u32, sctlr: u32) -> State {
     State {
-        registers: std::array::from_fn(|register| 0x100 + register as u32),
+        registers: std::array::from_fn(|register| 0x40 + register as u32),
         pc,
         status,
-        spsr_fiq: 0x201,
-        spsr_irq: 0x202,
-        spsr_svc: 0x203,
-        spsr_abt: 0x204,
-        spsr_und: 0x205,
-        dfsr: 0x301,
-        ifsr: 0x302,
-        dfar: 0x303,
-        ifar: 0x304,
+        spsr_fiq: 0x61,
+        spsr_irq: 0x62,
+        spsr_svc: 0x63,
+        spsr_abt: 0x64,
+        spsr_und: 0x65,
+        dfsr: 0x71,
+        ifsr: 0x72,
+        dfar: 0x73,
+        ifar: 0x74,
         sctlr,
         vbar: 0x1000,
         ttbcr: 0,
+        marks: Marks::NONE,
     }
 }
 

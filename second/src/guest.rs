@@ -1,8 +1,8 @@
 //! The guest's state and the five injections.
 
-use crate::status::Status;
+use crate::status::{Marks, Status};
 
-/// What the monitor keeps of a guest: 45 numbers of 32 bits.
+/// What the monitor keeps of a guest: 45 numbers of 32 bits and three marks.
 #[derive(Clone, Debug, PartialEq, Eq)]
 pub struct State {
     pub registers: [u32; 31],
@@ -20,10 +20,11 @@ pub struct State {
     pub sctlr: u32,
     pub vbar: u32,
     pub ttbcr: u32,
+    pub marks: Marks,
 }
 
 impl State {
-    /// The state in the order of the paper.
+    /// The state in the order of the paper, and then the marks.
     pub fn numbers(&self) -> Vec<u64> {
         let rest = [
             self.pc,
@@ -41,12 +42,18 @@ impl State {
             self.vbar,
             self.ttbcr,
         ];
-        self.registers.into_iter().chain(rest).map(u64::from).collect()
+        let words = self.registers.into_iter().chain(rest).map(u64::from);
+        let marks = [self.marks.pan, self.marks.ssbs, self.marks.dit];
+        words.chain(marks.map(u64::from)).collect()
     }
 
-    /// The state that 45 numbers show, if each has 32 bits.
+    /// The state that 45 words and three flags show.
     pub fn from_numbers(numbers: &[u64]) -> Option<State> {
-        let words = numbers.iter().map(|&number| u32::try_from(number).ok());
+        let (words, marks) = numbers.split_at_checked(45)?;
+        let marks = marks.iter().map(|&number| (number < 2).then_some(number == 1));
+        let marks: Vec<bool> = marks.collect::<Option<_>>()?;
+        let [pan, ssbs, dit] = marks.try_into().ok()?;
+        let words = words.iter().map(|&number| u32::try_from(number).ok());
         let words: Vec<u32> = words.collect::<Option<_>>()?;
         let (registers, rest) = words.split_at_checked(31)?;
         let registers = registers.try_into().ok()?;
@@ -68,12 +75,13 @@ impl State {
             sctlr,
             vbar,
             ttbcr,
+            marks: Marks { pan, ssbs, dit },
         })
     }
 
     fn sctlr(&self) -> Sctlr {
         let bit = |at: u32| self.sctlr >> at & 1 == 1;
-        Sctlr { te: bit(30), ee: bit(25), v: bit(13) }
+        Sctlr { dssbs: bit(31), te: bit(30), ee: bit(25), span: bit(23), v: bit(13) }
     }
 
     /// TTBCR.EAE, bit 31, chooses the long format.
@@ -88,8 +96,10 @@ impl State {
 
 /// The bits of SCTLR that exception entry asks about.
 struct Sctlr {
+    dssbs: bool,
     te: bool,
     ee: bool,
+    span: bool,
     v: bool,
 }
 
@@ -178,7 +188,7 @@ enum FaultReport {
 /// The state after the injection, or the number of the refusal.
 pub fn inject(state: &State, injection: &Injection) -> Result<State, u8> {
     let old = Status::unpack(state.status);
-    if !old.is_accepted() {
+    if !old.is_accepted(&state.marks) {
         return Err(9);
     }
     if !state.vbar.is_multiple_of(32) {
@@ -210,6 +220,8 @@ fn enter(state: &mut State, old: &Status, injection: &Injection) {
         e: sctlr.ee,
         il: false,
         it: 0,
+        pan: if state.marks.pan && !sctlr.span { true } else { old.pan },
+        ssbs: if state.marks.ssbs { sctlr.dssbs } else { old.ssbs },
         ..*old
     };
     state.status = new.pack();

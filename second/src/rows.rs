@@ -149,6 +149,7 @@ mod tests {
             ("hread", 1000, "0 1 3 4 5 6"),
             ("hwrite", 1000, "0 1 4 5 6"),
             ("widen", 1000, "0 5 9"),
+            ("spsr", 1000, "0 9"),
         ];
         let [stdin, stdout] = files().expect("the cases of the paper");
         let mut given: BTreeMap<String, (usize, BTreeSet<String>)> = BTreeMap::new();

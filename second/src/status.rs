@@ -6,8 +6,11 @@
 pub struct Status {
     pub nzcvq: u8,
     pub it: u8,
-    /// Bits 24:21, which the base doesn't have.
-    pub bits_24_21: u8,
+    /// Bit 24, which no guest has.
+    pub bit_24: bool,
+    pub ssbs: bool,
+    pub pan: bool,
+    pub dit: bool,
     pub il: bool,
     pub ge: u8,
     pub e: bool,
@@ -16,6 +19,27 @@ pub struct Status {
     pub f: bool,
     pub t: bool,
     pub mode: u8,
+}
+
+/// The features that a guest has: which of three bits its word may have.
+#[derive(Clone, Copy, Debug, PartialEq, Eq)]
+pub struct Marks {
+    pub pan: bool,
+    pub ssbs: bool,
+    pub dit: bool,
+}
+
+impl Marks {
+    pub const NONE: Marks = Marks { pan: false, ssbs: false, dit: false };
+    pub const ALL: Marks = Marks { pan: true, ssbs: true, dit: true };
+
+    /// Every choice of the three.
+    pub fn every() -> impl Iterator<Item = Marks> {
+        (0..8).map(|choice| {
+            let bit = |at: u32| choice >> at & 1 == 1;
+            Marks { pan: bit(0), ssbs: bit(1), dit: bit(2) }
+        })
+    }
 }
 
 /// The modes of a Non-secure guest: User, FIQ, IRQ, Supervisor, Abort,
@@ -27,14 +51,17 @@ impl Status {
         let mut bits = Unpacker { word, left: 32 };
         let nzcvq = bits.field(5);
         let it_1_0 = bits.field(2);
-        let bits_24_21 = bits.field(4);
+        let [bit_24, ssbs, pan, dit] = std::array::from_fn(|_| bits.bit());
         let il = bits.bit();
         let ge = bits.field(4);
         let it_7_2 = bits.field(6);
         Status {
             nzcvq,
             it: it_7_2 * 4 + it_1_0,
-            bits_24_21,
+            bit_24,
+            ssbs,
+            pan,
+            dit,
             il,
             ge,
             e: bits.bit(),
@@ -50,7 +77,10 @@ impl Status {
         let fields = [
             (5, self.nzcvq),
             (2, self.it % 4),
-            (4, self.bits_24_21),
+            (1, self.bit_24.into()),
+            (1, self.ssbs.into()),
+            (1, self.pan.into()),
+            (1, self.dit.into()),
             (1, self.il.into()),
             (4, self.ge),
             (6, self.it / 4),
@@ -64,9 +94,24 @@ impl Status {
         fields.into_iter().fold(0, |word, (width, value)| (word << width) + u32::from(value))
     }
 
-    pub fn is_accepted(&self) -> bool {
-        MODES.contains(&self.mode) && self.bits_24_21 == 0
+    /// A mode that a guest runs in, and no bit of a feature that it lacks.
+    pub fn is_accepted(&self, marks: &Marks) -> bool {
+        let features = [(self.ssbs, marks.ssbs), (self.pan, marks.pan), (self.dit, marks.dit)];
+        let lacking = features.iter().any(|&(set, marked)| set && !marked);
+        MODES.contains(&self.mode) && !self.bit_24 && !lacking
     }
+}
+
+/// The status word of the word that the hypervisor saved, or the number of the
+/// refusal. The saved word has DIT at 24, and SS, which a status word hasn't,
+/// where the status word has DIT.
+pub fn from_spsr(marks: &Marks, spsr: u32) -> Result<u32, u8> {
+    let saved = Status::unpack(spsr);
+    let status = Status { bit_24: false, dit: saved.bit_24, ..saved };
+    if !status.is_accepted(marks) {
+        return Err(9);
+    }
+    Ok(status.pack())
 }
 
 /// Takes fields from a word, the top ones first.
@@ -102,7 +147,28 @@ mod tests {
         assert!(Status::unpack(1 << 6).f);
         assert!(Status::unpack(1 << 5).t);
         assert_eq!(Status::unpack(0x0600_fc00).it, 0xff);
-        assert_eq!(Status::unpack(0x01e0_0000).bits_24_21, 0xf);
+        assert!(Status::unpack(1 << 24).bit_24);
+        assert!(Status::unpack(1 << 23).ssbs);
+        assert!(Status::unpack(1 << 22).pan);
+        assert!(Status::unpack(1 << 21).dit);
         assert_eq!(Status::unpack(0x000f_0000).ge, 0xf);
+    }
+
+    #[test]
+    fn a_bit_needs_its_mark() {
+        for marks in Marks::every() {
+            let accepted = |bit: u32| Status::unpack(0x10 + (1 << bit)).is_accepted(&marks);
+            assert_eq!([21, 22, 23].map(accepted), [marks.dit, marks.pan, marks.ssbs]);
+            assert!(!accepted(24));
+        }
+    }
+
+    #[test]
+    fn a_saved_word_has_dit_at_24() {
+        assert_eq!(from_spsr(&Marks::ALL, 0x0100_0010), Ok(0x0020_0010));
+        assert_eq!(from_spsr(&Marks::ALL, 0x0120_0010), Ok(0x0020_0010));
+        assert_eq!(from_spsr(&Marks::NONE, 0x0020_0010), Ok(0x0000_0010));
+        assert_eq!(from_spsr(&Marks::NONE, 0x0100_0010), Err(9));
+        assert_eq!(from_spsr(&Marks::ALL, 0x00c0_0016), Err(9));
     }
 }

@@ -15,6 +15,7 @@ mod line;
 mod out;
 mod read;
 mod row;
+mod spsr;
 mod state;
 mod trapped;
 mod widened;
@@ -56,6 +57,9 @@ fn call(word: u64, row: &[u64], out: &mut [u8], at: usize) -> usize {
     }
     if word == spelled(b"widen") {
         return widened::answer(row, out, at);
+    }
+    if word == spelled(b"spsr") {
+        return spsr::answer(row, out, at);
     }
     out::no_row(out, at)
 }

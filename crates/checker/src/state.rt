@@ -1,4 +1,4 @@
-// The guest's state by its 45 numbers: 31 registers, PC, status, five saved status words and seven registers.
+// The guest's state by its 48 numbers: 31 registers, PC, status, five saved status words, seven registers and three marks.
 use super::out;
 use super::row;
 use guest::FaultRegisters;
@@ -6,9 +6,9 @@ use guest::Guest;
 use guest::Saved;
 use status::Marks;
 
-// Whether a row is a state: 45 words.
+// Whether a row is a state: 45 words and three flags.
 pub fn is_given(row: &[u64]) -> bool {
-    row::shaped(row, b"wwwwwwwwwwwwwwwwwwwwwwwwwwwwwwwwwwwwwwwwwwwww")
+    row::shaped(row, b"wwwwwwwwwwwwwwwwwwwwwwwwwwwwwwwwwwwwwwwwwwwwwfff")
 }
 
 fn registers(row: &[u64]) -> [u32; 31] {
@@ -40,15 +40,20 @@ fn faults(row: &[u64]) -> FaultRegisters {
     }
 }
 
+// The marks by their flags.
+pub fn marks(row: &[u64]) -> Marks {
+    Marks {
+        pan: row::flag(row, 0),
+        ssbs: row::flag(row, 1),
+        dit: row::flag(row, 2),
+    }
+}
+
 pub fn from_row(row: &[u64]) -> Guest {
     let regs = registers(row);
     let spsr = saved(row);
     let fsr = faults(row);
-    let marks = Marks {
-        pan: false,
-        ssbs: false,
-        dit: false,
-    };
+    let features = marks(row::rest(row, 45));
     Guest {
         regs,
         pc: row::word(row, 31),
@@ -58,7 +63,7 @@ pub fn from_row(row: &[u64]) -> Guest {
         sctlr: row::word(row, 42),
         vbar: row::word(row, 43),
         ttbcr: row::word(row, 44),
-        marks,
+        marks: features,
     }
 }
 
@@ -73,6 +78,11 @@ fn put_control(out: &mut [u8], at: usize, g: Guest) -> usize {
     out::words(out, at, &words)
 }
 
+fn put_marks(out: &mut [u8], at: usize, m: Marks) -> usize {
+    let flags = [m.pan as u64, m.ssbs as u64, m.dit as u64];
+    out::numbers(out, at, &flags)
+}
+
 pub fn put(out: &mut [u8], at: usize, g: Guest) -> usize {
     let regs = g.regs;
     let spsr = g.saved;
@@ -80,5 +90,6 @@ pub fn put(out: &mut [u8], at: usize, g: Guest) -> usize {
     let registers = out::words(out, at, &regs);
     let status = out::words(out, registers, &places);
     let saved = put_saved(out, status, spsr);
-    put_control(out, saved, g)
+    let control = put_control(out, saved, g);
+    put_marks(out, control, g.marks)
 }

@@ -1,10 +1,12 @@
-//! Questions to the injector: an injection and a state, by value and lent.
+//! Questions to the injector: an injection and a state, by value and lent; and
+//! to the call that makes a status word of a saved one.
 
+use super::Turn;
 use crate::call::Call;
 use crate::cases::state;
 use crate::guest::{Fault, Injection, State};
 use crate::random::Random;
-use crate::status::MODES;
+use crate::status::{Marks, MODES};
 
 type Question = (Injection, State);
 
@@ -17,10 +19,12 @@ pub fn questions() -> Vec<Call> {
     questions.extend(address_bits());
     questions.extend(order_of_tests());
     questions.extend(random_questions());
+    questions.extend(every_mark());
+    questions.extend(marked_words());
     let by_value = questions.iter().map(|question| ask(false, question));
     // The lent call makes the call by value: a quarter of its questions.
     let lent = questions.iter().step_by(4).map(|question| ask(true, question));
-    by_value.chain(lent).collect()
+    by_value.chain(lent).chain(saved_words()).collect()
 }
 
 fn ask(lent: bool, (injection, state): &Question) -> Call {
@@ -36,13 +40,18 @@ fn with_t(status: u32, t: bool) -> u32 {
     (status & !bit) | (u32::from(t) * bit)
 }
 
+/// The bits 24:21 that a guest with the marks may have.
+fn allowed(marks: &Marks) -> u32 {
+    (u32::from(marks.ssbs) << 23) + (u32::from(marks.pan) << 22) + (u32::from(marks.dit) << 21)
+}
+
 /// SCTLR with TE, EE and V as the three low bits of the choice say.
 fn sctlr(choice: u32) -> u32 {
     let bit = |at: u32| choice >> at & 1;
     (bit(0) << 30) + (bit(1) << 25) + (bit(2) << 13)
 }
 
-/// A state of small numbers that all differ, in user mode.
+/// A state of small numbers that all differ, in user mode, without marks.
 fn plain_state() -> State {
     state(0x10, 0x8000, 0)
 }
@@ -193,20 +202,94 @@ fn order_of_tests() -> Vec<Question> {
 }
 
 /// States of random words from which every injection of a writable fault is
-/// taken.
+/// taken, the latter half with random marks.
 fn random_questions() -> Vec<Question> {
     let mut random = Random::seeded(4);
     let mut questions = Vec::new();
-    for _ in 0..20 {
+    for turn in 0..40 {
         let mut numbers: Vec<u64> = (0..45).map(|_| random.word().into()).collect();
-        numbers[32] = numbers[32] & !0x01e0_001f | u64::from(random.pick(&MODES));
+        numbers[32] = numbers[32] & !0x1f | u64::from(random.pick(&MODES));
         numbers[43] = numbers[43] / 32 * 32;
-        let state = State::from_numbers(&numbers).expect("a state");
+        numbers.extend((0..3).map(|_| if turn < 20 { 0 } else { random.below(2) }));
+        let mut state = State::from_numbers(&numbers).expect("a state");
+        state.status &= !0x01e0_0000 | allowed(&state.marks);
         let fault = random.pick(&faults_at(&[1, 2, 3]));
         let address = random.word().into();
         let abort = random.pick(&aborts(fault, address));
         questions.push((abort, state.clone()));
         questions.push((random.pick(&five()), state));
+    }
+    questions
+}
+
+/// Every choice of the marks and of bits 24:21. Where the word is sound, with
+/// every choice of SCTLR's DSSBS and SPAN, and two of the five by turns.
+fn every_mark() -> Vec<Question> {
+    let mut questions = Vec::new();
+    let mut turn = Turn::over(5);
+    for marks in Marks::every() {
+        for bits in (0..16).map(|choice| choice << 21) {
+            let state = State { status: 0x10 + bits, marks, ..plain_state() };
+            if bits & !allowed(&marks) != 0 {
+                questions.push((five()[turn.next() as usize], state));
+                continue;
+            }
+            for (dssbs, span) in [(0, 0), (0, 1), (1, 0), (1, 1)] {
+                let sctlr = (dssbs << 31) + (span << 23);
+                for injection in [turn.next(), turn.next()].map(|turn| five()[turn as usize]) {
+                    questions.push((injection, State { sctlr, ..state.clone() }));
+                }
+            }
+        }
+    }
+    questions
+}
+
+/// A guest with all marks: all modes, each bit of the word alone and as the only
+/// one that is 0, and each bit of SCTLR alone. And with each choice of the marks:
+/// the tests 9 to 11 that fail together.
+fn marked_words() -> Vec<Question> {
+    let mut questions = Vec::new();
+    let marked = State { marks: Marks::ALL, ..plain_state() };
+    let mut turn = Turn::over(5);
+    for bit in 0..32 {
+        let (alone, missing) = (1 << bit, !(1 << bit));
+        let settings =
+            [(bit, 0), (0x10 | alone, 0), (0xfeff_ffff & missing, 1 << 23), (0x00e0_0010, alone)];
+        for (status, sctlr) in settings {
+            let injection = five()[turn.next() as usize];
+            questions.push((injection, State { status, sctlr, ..marked.clone() }));
+        }
+    }
+    for marks in Marks::every() {
+        for choice in 0..8 {
+            let fails = |test: u32| choice >> (test - 9) & 1 == 1;
+            let bits = if fails(9) { 0x01e0_0000 } else { allowed(&marks) };
+            let vbar = 0x1000 + (u32::from(fails(10)) << 4);
+            let fault = Fault::Permission(if fails(11) { 3 } else { 1 });
+            let state = State { status: 0x13 + bits, vbar, marks, ..plain_state() };
+            questions.push((aborts(fault, 0x8000)[turn.next() as usize % 3], state));
+        }
+    }
+    questions
+}
+
+/// Saved words: every choice of the marks and of bits 24:21 with a sound mode and
+/// with one that isn't; every mode; each bit alone and as the only one that is 0.
+fn saved_words() -> Vec<Call> {
+    let mut questions = Vec::new();
+    let mut random = Random::seeded(15);
+    for marks in Marks::every() {
+        let mut words: Vec<u32> = Vec::new();
+        for bits in 0..16 {
+            words.extend([0x10, 0xfe1f_ffff, 0x16].map(|word| word + (bits << 21)));
+            words.push(random.word() & !0x01e0_001f | bits << 21 | u32::from(random.pick(&MODES)));
+        }
+        words.extend(0..32);
+        words.extend((5..32).map(|bit| 0x1f | 1 << bit));
+        words.extend((0..32).map(|bit| !(1 << bit)));
+        words.push(u32::MAX);
+        questions.extend(words.into_iter().map(|word| Call::Spsr { marks, word }));
     }
     questions
 }

@@ -2,7 +2,8 @@
 
 /// Rows of every call.
 fn rows() -> Vec<String> {
-    let state: String = (1..=45).map(|number| format!(" {number:x}")).collect();
+    let words: String = (1..=45).map(|number| format!(" {number:x}")).collect();
+    let state = words + " 1 0 1";
     let mut rows: Vec<String> = [
         "read 0 92000005",
         "write 0 0 0 1",
@@ -23,6 +24,7 @@ fn rows() -> Vec<String> {
         "hwrite 0 8 1 1 1 0 10",
         "hwrite 0 9 1 1 2 0 3 0 0 0 0 0 0 1 5",
         "widen 10 2 3 1 1 e 0 0 0 0 0 1",
+        "spsr 1 0 1 1000010",
     ]
     .map(String::from)
     .into();
