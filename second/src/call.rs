@@ -2,6 +2,7 @@
 //! each answers.
 
 use crate::catalogue::Catalogue;
+use crate::device::{finish, Access};
 use crate::form::{Form, Record};
 use crate::guest::{inject, Fault, Injection, State};
 use crate::long::LONG;
@@ -57,6 +58,13 @@ pub enum Call {
         marks: Marks,
         word: u32,
     },
+    /// By value or on a state that is lent.
+    Finish {
+        lent: bool,
+        value: u32,
+        state: State,
+        record: Record,
+    },
 }
 
 /// A row of numbers and truth values of any width.
@@ -109,6 +117,15 @@ impl Call {
                 let marks = Marks { pan: pan == 1, ssbs: ssbs == 1, dit: dit == 1 };
                 Some(Call::Spsr { marks, word: narrow(word)? })
             }
+            (b"finish" | b"finlent", [value, rest @ ..]) => {
+                let (state, record) = rest.split_at_checked(48)?;
+                Some(Call::Finish {
+                    lent: name == b"finlent",
+                    value: narrow(*value)?,
+                    state: State::from_numbers(state)?,
+                    record: Record::from_row(&LONG, record)?,
+                })
+            }
             _ => None,
         }
     }
@@ -139,6 +156,10 @@ impl Call {
             Call::Spsr { marks: Marks { pan, ssbs, dit }, word } => {
                 ("spsr", row![*pan, *ssbs, *dit, *word])
             }
+            Call::Finish { lent, value, state, record } => {
+                let name = if *lent { "finlent" } else { "finish" };
+                (name, [row![*value], state.numbers(), record.row()].concat())
+            }
         };
         format!("{name} {}", text(&numbers))
     }
@@ -147,7 +168,9 @@ impl Call {
     fn look_up(&self, words: &mut Words) {
         match self {
             Call::Read { edition, word } => words.long.extend(looked_up(&LONG, *edition, *word)),
-            Call::Write { record, .. } | Call::Carry { record, .. } => {
+            Call::Write { record, .. }
+            | Call::Carry { record, .. }
+            | Call::Finish { record, .. } => {
                 words.long.extend(record.word());
             }
             Call::Trap { edition, registers } => {
@@ -205,6 +228,15 @@ impl Call {
             },
             Call::Spsr { marks, word } => {
                 answered(from_spsr(marks, *word).map(|status| row![status]).map_err(Refusal::plain))
+            }
+            Call::Finish { value, state, record, .. } => {
+                match finish(catalogue, state, record, *value) {
+                    Ok((Access::Load, after)) => [row![0u8, 0u8, 0u8], after.numbers()].concat(),
+                    Ok((Access::Store(value), after)) => {
+                        [row![0u8, 1u8, value], after.numbers()].concat()
+                    }
+                    Err(refusal) => [row![refusal, 0u8, 0u8], state.numbers()].concat(),
+                }
             }
         }
     }
@@ -395,6 +427,11 @@ mod tests {
             "spsr 0 2 0 10".into(),
             "spsr 0 0 0 100000000".into(),
             "spsr 0 0 10".into(),
+            format!("finish 0{state}"),
+            format!("finish 0{state} a 0"),
+            format!("finish 0{state} 0 0 1 0"),
+            format!("finish 100000000{state} 0 0 1"),
+            "finish 0 0 0 1".into(),
         ];
         for line in bad {
             assert!(Call::parse(line.as_bytes()).is_none(), "{line}");

@@ -54,6 +54,12 @@ impl Catalogue {
     pub fn find(&self, word: u32) -> Option<&Entry> {
         self.entries[&word].as_ref()
     }
+
+    /// Whether some edition has the very record.
+    pub fn has(&self, record: &Record) -> bool {
+        let entry = record.word().and_then(|word| self.find(word));
+        entry.is_some_and(|entry| entry.record == *record)
+    }
 }
 
 /// The class of a word: EC, bits 31:26.

@@ -9,6 +9,7 @@ mod cases;
 mod catalogue;
 #[cfg(feature = "compare")]
 mod compare;
+mod device;
 mod edition;
 mod form;
 mod guest;

@@ -2,6 +2,7 @@
 //! `checker` and what it must write.
 
 mod aborts;
+mod finish;
 mod inject;
 mod malformed;
 mod read;
@@ -32,6 +33,7 @@ fn questions() -> Vec<u8> {
         .chain(write::questions())
         .chain(trap::questions())
         .chain(inject::questions())
+        .chain(finish::questions())
         .chain(short::questions());
     let lines = calls.map(|call| call.line() + "\n");
     let mut bytes = lines.collect::<String>().into_bytes();
@@ -134,8 +136,8 @@ mod tests {
         String::from_utf8_lossy(word).into_owned()
     }
 
-    /// Every call is asked by some thousand rows, or some hundred of the lent
-    /// one, and gives every number that it can give.
+    /// Every call is asked by some thousand rows, or some hundred of those that
+    /// change a state, and gives every number that it can give.
     #[test]
     fn each_call_gives_every_answer_that_it_can_give() {
         let expected = [
@@ -150,6 +152,8 @@ mod tests {
             ("hwrite", 1000, "0 1 4 5 6"),
             ("widen", 1000, "0 5 9"),
             ("spsr", 1000, "0 9"),
+            ("finish", 500, "0 5 9 12"),
+            ("finlent", 100, "0 5 9 12"),
         ];
         let [stdin, stdout] = files().expect("the cases of the paper");
         let mut given: BTreeMap<String, (usize, BTreeSet<String>)> = BTreeMap::new();

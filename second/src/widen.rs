@@ -48,12 +48,6 @@ pub fn widened(mode: u32, short: &Record) -> Option<Record> {
     Some(Record { kind, class: short.class, values })
 }
 
-/// Whether some edition has the very record.
-fn is_had(catalogue: &Catalogue, record: &Record) -> bool {
-    let entry = record.word().and_then(|word| catalogue.find(word));
-    entry.is_some_and(|entry| entry.record == *record)
-}
-
 pub fn widen(
     short: &Catalogue,
     long: &Catalogue,
@@ -63,9 +57,9 @@ pub fn widen(
     if !MODES.iter().any(|&accepted| u32::from(accepted) == mode) {
         return Err(Refusal::plain(9));
     }
-    let had = Some(record).filter(|record| is_had(short, record));
+    let had = Some(record).filter(|record| short.has(record));
     let wide = had.and_then(|record| widened(mode, record));
-    wide.filter(|wide| is_had(long, wide)).ok_or(Refusal::plain(5))
+    wide.filter(|wide| long.has(wide)).ok_or(Refusal::plain(5))
 }
 
 #[cfg(test)]

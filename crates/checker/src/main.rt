@@ -4,6 +4,8 @@
 // Rows and their answers are described in second/README.md. Lines of any length take no more memory than the longest row.
 mod both;
 mod carry;
+mod finish;
+mod finlent;
 mod given;
 mod hgiven;
 mod hread;
@@ -60,6 +62,12 @@ fn call(word: u64, row: &[u64], out: &mut [u8], at: usize) -> usize {
     }
     if word == spelled(b"spsr") {
         return spsr::answer(row, out, at);
+    }
+    if word == spelled(b"finish") {
+        return finish::answer(row, out, at);
+    }
+    if word == spelled(b"finlent") {
+        return finlent::answer(row, out, at);
     }
     out::no_row(out, at)
 }

@@ -6,9 +6,14 @@ use guest::Guest;
 use guest::Saved;
 use status::Marks;
 
-// Whether a row is a state: 45 words and three flags.
+// Whether a row begins with a state: 45 words and three flags.
+pub fn leads(row: &[u64]) -> bool {
+    row::begins(row, b"wwwwwwwwwwwwwwwwwwwwwwwwwwwwwwwwwwwwwwwwwwwwwfff")
+}
+
+// Whether a row is a state.
 pub fn is_given(row: &[u64]) -> bool {
-    row::shaped(row, b"wwwwwwwwwwwwwwwwwwwwwwwwwwwwwwwwwwwwwwwwwwwwwfff")
+    leads(row) & (row.len() == 48)
 }
 
 fn registers(row: &[u64]) -> [u32; 31] {

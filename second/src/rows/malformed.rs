@@ -32,6 +32,8 @@ fn rows() -> Vec<String> {
         rows.push(format!("inject {injection}{state}"));
         rows.push(format!("lent {injection}{state}"));
     }
+    rows.push(format!("finish 1{state} 9 1 1 2 0 3 0 0 0 0 0 0 0 1 5"));
+    rows.push(format!("finlent 1{state} 6 11 1 ffff"));
     rows
 }
 
@@ -43,8 +45,8 @@ fn with_each_number(row: &str, value: &str) -> Vec<String> {
         changed[place] = value;
         changed.join(" ")
     };
-    // The registers of a state are alike.
-    (1..words.len()).filter(|place| !(10..36).contains(place)).map(with).collect()
+    // The words of a state are alike.
+    (1..words.len()).filter(|place| !(10..46).contains(place)).map(with).collect()
 }
 
 /// Numbers missing and too many; each number in turn too large for a flag, for
