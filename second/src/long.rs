@@ -6,15 +6,15 @@ use crate::form::{bit, field, Family, Field, Form, Kind};
 
 pub static LONG: Form = Form { kinds: &KINDS, editions: 16, needs_il, families };
 
-const IL: Field = bit("IL", 25);
-const CV: Field = bit("CV", 24);
-const COND: Field = field("COND", 23, 20);
-const DIRECTION: Field = bit("Direction", 0);
+pub const IL: Field = bit("IL", 25);
+pub const CV: Field = bit("CV", 24);
+pub const COND: Field = field("COND", 23, 20);
+pub const DIRECTION: Field = bit("Direction", 0);
 const SET: Field = field("SET", 12, 11);
-const FNV: Field = bit("FnV", 10);
-const EA: Field = bit("EA", 9);
-const S1PTW: Field = bit("S1PTW", 7);
-const CODE: Field = field("code", 5, 0);
+pub const FNV: Field = bit("FnV", 10);
+pub const EA: Field = bit("EA", 9);
+pub const S1PTW: Field = bit("S1PTW", 7);
+pub const CODE: Field = field("code", 5, 0);
 
 static KINDS: [Kind; 10] = [
     Kind { number: 0, classes: &[0x00, 0x0e, 0x22], fields: &[IL] },

@@ -5,20 +5,12 @@ use crate::edition::Edition;
 use crate::form::{bit, field, Family, Field, Form, Kind};
 use crate::long::{
     addressing_modes, bit_if, calls_to_the_monitor, conditions, has_no_16_bit_form, instructions,
-    supervisor_calls,
+    supervisor_calls, CODE, COND, CV, DIRECTION, EA, FNV, IL, S1PTW,
 };
 
 pub static SHORT: Form = Form { kinds: &KINDS, editions: 2, needs_il, families };
 
-const IL: Field = bit("IL", 25);
-const CV: Field = bit("CV", 24);
-const COND: Field = field("COND", 23, 20);
-const DIRECTION: Field = bit("Direction", 0);
 const RT: Field = field("Rt", 8, 5);
-const FNV: Field = bit("FnV", 10);
-const EA: Field = bit("EA", 9);
-const S1PTW: Field = bit("S1PTW", 7);
-const CODE: Field = field("code", 5, 0);
 
 /// The kinds have the numbers of the long form. A data abort's bits 11:10 are
 /// one field: AET with code 0x11, and else FnV in its lower bit.
