@@ -8,6 +8,10 @@
 //! when it matches a form and none of what the form excludes. How many words a
 //! form takes is counted by enumerating the free bits that its exclusions name.
 
+use crate::guest::State;
+use crate::status::Status;
+use crate::widen::mapped;
+
 /// The bits that are fixed, and what they are.
 #[derive(Debug, Clone, Copy, PartialEq, Eq)]
 pub struct Pattern {
@@ -64,9 +68,85 @@ pub enum Transfer {
     Multiple,
 }
 
+/// How the address is given.
+#[derive(Debug, Clone, Copy, PartialEq, Eq)]
+pub enum Addressing {
+    Immediate,
+    Register,
+    Literal,
+    List,
+}
+
+impl Addressing {
+    const ALL: [Addressing; 4] =
+        [Addressing::Immediate, Addressing::Register, Addressing::Literal, Addressing::List];
+
+    /// The letters of the fields, in the order of a row of numbers.
+    fn letters(self) -> &'static str {
+        match self {
+            Addressing::Immediate => "cpuwnti",
+            Addressing::Register => "cpuwntm",
+            Addressing::Literal => "cuti",
+            Addressing::List => "cpuwnr",
+        }
+    }
+
+    /// How many transfers a row of numbers can name.
+    fn transfers(self) -> u32 {
+        match self {
+            Addressing::List => 2,
+            _ => 10,
+        }
+    }
+}
+
+/// What a row of numbers says of an instruction, whether or not a word has it.
+#[derive(Debug, Clone, PartialEq, Eq)]
+pub struct Fields {
+    addressing: Addressing,
+    /// Which of the ten transfers; of a list, whether it is loaded.
+    transfer: u32,
+    /// The fields by their letters.
+    values: Vec<u32>,
+}
+
+impl Fields {
+    pub fn from_row(row: &[u64]) -> Option<Fields> {
+        let [addressing, transfer, values @ ..] = row else { return None };
+        let addressing = *Addressing::ALL.get(usize::try_from(*addressing).ok()?)?;
+        let transfer = u32::try_from(*transfer).ok()?;
+        let values: Vec<u32> =
+            values.iter().map(|&value| u32::try_from(value).ok()).collect::<Option<_>>()?;
+        let letters = addressing.letters();
+        let flags_fit = letters.chars().zip(&values).all(|(c, &v)| v < 2 || !"puw".contains(c));
+        let shaped = transfer < addressing.transfers() && letters.len() == values.len();
+        (shaped && flags_fit).then_some(Fields { addressing, transfer, values })
+    }
+
+    pub fn row(&self) -> Vec<u64> {
+        let head = [self.addressing as u32, self.transfer];
+        head.iter().chain(&self.values).map(|&number| number.into()).collect()
+    }
+
+    /// Whether U adds the offset.
+    pub fn adds(&self) -> bool {
+        self.addressing.letters().chars().zip(&self.values).any(|(c, &v)| c == 'u' && v == 1)
+    }
+
+    /// The word of some form that has the fields, or none: refusal 19.
+    pub fn word(&self, forms: &[Form]) -> Option<u32> {
+        let same =
+            |form: &&Form| form.addressing == self.addressing && form.number == self.transfer;
+        forms.iter().find(same)?.word(&self.values)
+    }
+}
+
 #[derive(Debug, Clone, PartialEq, Eq)]
 pub struct Form {
     pub name: &'static str,
+    pub addressing: Addressing,
+    /// The transfer's number in a row of numbers.
+    pub number: u32,
     pub transfer: Transfer,
     pub load: bool,
     row: Row,
@@ -75,11 +155,39 @@ pub struct Form {
 }
 
 impl Form {
-    /// Every form stands under a condition, which isn't 1111.
-    fn new(name: &'static str, transfer: Transfer, load: bool, row: &'static str) -> Form {
-        let row = Row(row);
-        let excluded = vec![row.with(&[('c', 15)])];
-        Form { name, transfer, load, row, fixed: row.fixed(), excluded }
+    /// A word's fields.
+    pub fn fields(&self, word: u32) -> Fields {
+        let letters = self.letters().chars();
+        let value = |letter| self.row.field(letter, word).expect("a field of the form");
+        Fields {
+            addressing: self.addressing,
+            transfer: self.number,
+            values: letters.map(value).collect(),
+        }
+    }
+
+    /// The letters of its fields, in the order of a row of numbers.
+    pub fn letters(&self) -> &'static str {
+        self.addressing.letters()
+    }
+
+    /// The bits of a field; a literal's base and addressing have none.
+    pub fn width(&self, letter: char) -> usize {
+        self.row.0.chars().filter(|&c| c == letter).count()
+    }
+
+    /// The word with these fields, whether or not it is taken. Each is cut to its
+    /// bits.
+    pub fn pattern(&self, values: &[(char, u32)]) -> u32 {
+        self.fixed.value | self.row.with(values).value
+    }
+
+    /// The word that has these values in its fields, if this form takes it.
+    fn word(&self, values: &[u32]) -> Option<u32> {
+        let named: Vec<(char, u32)> = self.letters().chars().zip(values.iter().copied()).collect();
+        let fits = |&(letter, value): &(char, u32)| u64::from(value) < 1 << self.width(letter);
+        let word = self.pattern(&named);
+        (named.iter().all(fits) && self.takes(word)).then_some(word)
     }
 
     fn takes(&self, word: u32) -> bool {
@@ -107,6 +215,20 @@ impl Form {
             }
         }
     }
+}
+
+/// Every form stands under a condition, which isn't 1111.
+fn form(
+    name: &'static str,
+    addressing: Addressing,
+    number: u32,
+    transfer: Transfer,
+    load: bool,
+    row: &'static str,
+) -> Form {
+    let row = Row(row);
+    let excluded = vec![row.with(&[('c', 15)])];
+    Form { name, addressing, number, transfer, load, row, fixed: row.fixed(), excluded }
 }
 
 const ALL: std::ops::Range<u32> = 0..16;
@@ -138,6 +260,7 @@ fn exclude_target(form: &mut Form) {
 
 struct Single {
     names: [&'static str; 3],
+    number: u32,
     transfer: Transfer,
     load: bool,
     /// With an immediate, with a register, and the literal of a load.
@@ -145,14 +268,22 @@ struct Single {
 }
 
 impl Single {
-    fn form(&self, which: usize) -> Form {
-        let mut form = Form::new(self.names[which], self.transfer, self.load, self.rows[which]);
+    fn form(&self, addressing: Addressing) -> Form {
+        let which = addressing as usize;
+        let mut form = form(
+            self.names[which],
+            addressing,
+            self.number,
+            self.transfer,
+            self.load,
+            self.rows[which],
+        );
         exclude_target(&mut form);
         form
     }
 
     fn immediate(&self) -> Form {
-        let mut form = self.form(0);
+        let mut form = self.form(Addressing::Immediate);
         form.exclude(&[('p', 0), ('w', 1)]);
         if self.load {
             form.exclude(&[('n', 15)]);
@@ -162,7 +293,7 @@ impl Single {
     }
 
     fn register(&self) -> Form {
-        let mut form = self.form(1);
+        let mut form = self.form(Addressing::Register);
         form.exclude(&[('p', 0), ('w', 1)]);
         form.exclude(&[('m', 15)]);
         if self.load && self.transfer == Transfer::Dual {
@@ -176,9 +307,13 @@ impl Single {
     }
 }
 
-/// The rows of the manual.
+/// The rows of the manual, in the order of the transfers' numbers.
 fn singles() -> Vec<Single> {
-    let single = |names, transfer, load, rows| Single { names, transfer, load, rows };
+    let mut number = 0..;
+    let mut single = |names, transfer, load, rows| {
+        let number = number.next().expect("a number");
+        Single { names, number, transfer, load, rows }
+    };
     let word = Transfer::Word;
     let narrow = Transfer::Narrow;
     let dual = Transfer::Dual;
@@ -271,7 +406,7 @@ fn singles() -> Vec<Single> {
 }
 
 fn multiple(name: &'static str, load: bool, row: &'static str) -> Form {
-    let mut form = Form::new(name, Transfer::Multiple, load, row);
+    let mut form = form(name, Addressing::List, load.into(), Transfer::Multiple, load, row);
     form.exclude(&[('n', 15)]);
     form.exclude(&[('r', 0)]);
     if load {
@@ -291,7 +426,7 @@ pub fn forms() -> Vec<Form> {
         forms.push(single.immediate());
         forms.push(single.register());
         if single.load {
-            forms.push(single.form(2));
+            forms.push(single.form(Addressing::Literal));
         }
     }
     forms.push(multiple("LDM", true, "cccc100pu0w1nnnnrrrrrrrrrrrrrrrr"));
@@ -305,6 +440,24 @@ pub fn find(forms: &[Form], word: u32) -> Option<&Form> {
     let form = found.next();
     assert!(found.next().is_none(), "two forms take {word:08x}");
     form
+}
+
+/// What a word does in a guest's state: its fields and its effect, or the number
+/// of the refusal.
+pub fn describe(forms: &[Form], state: &State, word: u32) -> Result<(Fields, Effect), u8> {
+    let status = Status::unpack(state.status);
+    if !status.is_accepted(&state.marks) {
+        return Err(9);
+    }
+    if status.t {
+        return Err(19);
+    }
+    let form = find(forms, word).ok_or(19)?;
+    let value = |register| match mapped(status.mode.into(), register) {
+        Some(number) => state.registers[number as usize],
+        None => state.pc.wrapping_add(8),
+    };
+    Ok((form.fields(word), form.effect(word, value)))
 }
 
 #[derive(Debug, PartialEq, Eq)]

@@ -1,6 +1,7 @@
 //! The rows: the calls of the proved code asked by a line of text, and what
 //! each answers.
 
+use crate::a32::{self, Fields};
 use crate::catalogue::Catalogue;
 use crate::device::{finish, Access};
 use crate::form::{Form, Record};
@@ -65,6 +66,16 @@ pub enum Call {
         state: State,
         record: Record,
     },
+    Decode {
+        word: u32,
+    },
+    Encode {
+        fields: Fields,
+    },
+    Describe {
+        word: u32,
+        state: State,
+    },
 }
 
 /// A row of numbers and truth values of any width.
@@ -126,6 +137,12 @@ impl Call {
                     record: Record::from_row(&LONG, record)?,
                 })
             }
+            (b"decode", &[word]) => Some(Call::Decode { word: narrow(word)? }),
+            (b"encode", fields) => Some(Call::Encode { fields: Fields::from_row(fields)? }),
+            (b"access", [word, state @ ..]) => {
+                let state = State::from_numbers(state)?;
+                Some(Call::Describe { word: narrow(*word)?, state })
+            }
             _ => None,
         }
     }
@@ -160,6 +177,9 @@ impl Call {
                 let name = if *lent { "finlent" } else { "finish" };
                 (name, [row![*value], state.numbers(), record.row()].concat())
             }
+            Call::Decode { word } => ("decode", row![*word]),
+            Call::Encode { fields } => ("encode", fields.row()),
+            Call::Describe { word, state } => ("access", [row![*word], state.numbers()].concat()),
         };
         format!("{name} {}", text(&numbers))
     }
@@ -187,12 +207,16 @@ impl Call {
                 words.short.extend(record.word());
                 words.long.extend(widened(*mode, record).and_then(|wide| wide.word()));
             }
-            Call::Inject { .. } | Call::Spsr { .. } => {}
+            Call::Inject { .. }
+            | Call::Spsr { .. }
+            | Call::Decode { .. }
+            | Call::Encode { .. }
+            | Call::Describe { .. } => {}
         }
     }
 
     fn answer(&self, catalogues: &Catalogues) -> Vec<u64> {
-        let Catalogues { long: catalogue, short } = catalogues;
+        let Catalogues { long: catalogue, short, a32: forms } = catalogues;
         match self {
             Call::Read { edition, word } => {
                 answered(read(catalogue, *edition, *word).map(|record| record.row()))
@@ -223,20 +247,34 @@ impl Call {
                 answered(widen(short, catalogue, *mode, record).map(|record| record.row()))
             }
             Call::Inject { injection, state, .. } => match inject(state, injection) {
-                Ok(after) => [row![0u8], after.numbers()].concat(),
-                Err(refusal) => [row![refusal], state.numbers()].concat(),
+                Ok(after) => [row![0u8], state.changes_to(&after)].concat(),
+                Err(refusal) => row![refusal],
             },
             Call::Spsr { marks, word } => {
                 answered(from_spsr(marks, *word).map(|status| row![status]).map_err(Refusal::plain))
             }
             Call::Finish { value, state, record, .. } => {
                 match finish(catalogue, state, record, *value) {
-                    Ok((Access::Load, after)) => [row![0u8, 0u8, 0u8], after.numbers()].concat(),
-                    Ok((Access::Store(value), after)) => {
-                        [row![0u8, 1u8, value], after.numbers()].concat()
+                    Ok((Access::Load, after)) => {
+                        [row![0u8, 0u8, 0u8], state.changes_to(&after)].concat()
                     }
-                    Err(refusal) => [row![refusal, 0u8, 0u8], state.numbers()].concat(),
+                    Ok((Access::Store(value), after)) => {
+                        [row![0u8, 1u8, value], state.changes_to(&after)].concat()
+                    }
+                    Err(refusal) => row![refusal, 0u8, 0u8],
                 }
+            }
+            Call::Decode { word } => {
+                let form = a32::find(forms, *word).ok_or(Refusal::plain(19));
+                answered(form.map(|form| form.fields(*word).row()))
+            }
+            Call::Encode { fields } => {
+                let word = fields.word(forms).ok_or(Refusal::plain(19));
+                answered(word.map(|word| row![word]))
+            }
+            Call::Describe { word, state } => {
+                let described = a32::describe(forms, state, *word).map_err(Refusal::plain);
+                answered(described.map(|(fields, effect)| access_row(&fields, &effect)))
             }
         }
     }
@@ -249,10 +287,11 @@ struct Words {
     short: Vec<u32>,
 }
 
-/// What the enumeration answers for them.
+/// What the enumeration answers for them, and the forms of A32.
 struct Catalogues {
     long: Catalogue,
     short: Catalogue,
+    a32: Vec<a32::Form>,
 }
 
 impl Catalogues {
@@ -262,7 +301,7 @@ impl Catalogues {
             call.look_up(&mut words);
         }
         let long = Catalogue::of(&LONG, words.long);
-        Catalogues { long, short: Catalogue::of(&SHORT, words.short) }
+        Catalogues { long, short: Catalogue::of(&SHORT, words.short), a32: a32::forms() }
     }
 }
 
@@ -313,6 +352,19 @@ fn answered(answer: Result<Vec<u64>, Refusal>) -> Vec<u64> {
         Ok(row) => [row![0u8], row].concat(),
         Err(refusal) => row![refusal.number, refusal.editions.0, refusal.editions.count()],
     }
+}
+
+/// The fields, the number of registers, the first address, 1 where the base's
+/// change is subtracted and its size, and sixteen numbers of registers, 0 after the
+/// last.
+fn access_row(fields: &Fields, effect: &a32::Effect) -> Vec<u64> {
+    let count = effect.registers.len();
+    let minus = !fields.adds();
+    let size = effect.change.unsigned_abs();
+    let mut row = [fields.row(), row![count as u64, effect.address, minus, size]].concat();
+    let padding = std::iter::repeat_n(0, 16 - count);
+    row.extend(effect.registers.iter().copied().chain(padding).map(u64::from));
+    row
 }
 
 fn registers_row(registers: &Registers) -> Vec<u64> {

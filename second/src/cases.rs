@@ -196,7 +196,7 @@ fn written_back(case: &ReadCase, edition: u32) -> Vec<Case> {
 
 fn injected(case: InjectionCase) -> [Case; 2] {
     let InjectionCase { injection, before, after } = case;
-    let answer = format!("0 {}", text(&after.numbers()));
+    let answer = format!("0 {}", text(&before.changes_to(&after)));
     [false, true].map(|lent| {
         let call = Call::Inject { lent, injection, state: before.clone() };
         Case { call, answer: answer.clone() }

@@ -47,6 +47,14 @@ impl State {
         words.chain(marks.map(u64::from)).collect()
     }
 
+    /// The numbers of another state that differ from this one's, each after its
+    /// place.
+    pub fn changes_to(&self, after: &State) -> Vec<u64> {
+        let numbers = self.numbers().into_iter().zip(after.numbers()).enumerate();
+        let changed = numbers.filter(|(_, (before, after))| before != after);
+        changed.flat_map(|(place, (_, after))| [place as u64, after]).collect()
+    }
+
     /// The state that 45 words and three flags show.
     pub fn from_numbers(numbers: &[u64]) -> Option<State> {
         let (words, marks) = numbers.split_at_checked(45)?;

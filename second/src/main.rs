@@ -1,6 +1,5 @@
 //! The second program: the rules of the paper answered by enumerating records.
 
-#[cfg(test)]
 mod a32;
 #[cfg(feature = "compare")]
 mod bench;

@@ -1,6 +1,7 @@
 //! The stored questions and answers: the standard input of the program
 //! `checker` and what it must write.
 
+mod a32;
 mod aborts;
 mod finish;
 mod inject;
@@ -34,7 +35,8 @@ fn questions() -> Vec<u8> {
         .chain(trap::questions())
         .chain(inject::questions())
         .chain(finish::questions())
-        .chain(short::questions());
+        .chain(short::questions())
+        .chain(a32::questions());
     let lines = calls.map(|call| call.line() + "\n");
     let mut bytes = lines.collect::<String>().into_bytes();
     bytes.extend(malformed::lines());
@@ -154,6 +156,9 @@ mod tests {
             ("spsr", 1000, "0 9"),
             ("finish", 500, "0 5 9 12"),
             ("finlent", 100, "0 5 9 12"),
+            ("decode", 1000, "0 13"),
+            ("encode", 1000, "0 13"),
+            ("access", 500, "0 9 13"),
         ];
         let [stdin, stdout] = files().expect("the cases of the paper");
         let mut given: BTreeMap<String, (usize, BTreeSet<String>)> = BTreeMap::new();

@@ -21,7 +21,7 @@ fn banked(mode: u32) -> [u32; 7] {
 }
 
 /// The AArch64 number of a register in a mode; 15 has none.
-fn mapped(mode: u32, register: u32) -> Option<u32> {
+pub fn mapped(mode: u32, register: u32) -> Option<u32> {
     match register {
         0..=7 => Some(register),
         8..=14 => Some(banked(mode)[register as usize - 8]),

@@ -23,13 +23,13 @@ fn value(answer: Answer) -> u64 {
     }
 }
 
-pub fn shown(out: &mut [u8], at: usize, done: Finished) -> usize {
+pub fn shown(out: &mut [u8], at: usize, before: &[u64], done: Finished) -> usize {
     let answer = done.answer;
     let after = done.state;
     let number = out::first(out, at, device::number(answer) as u64);
     let access = [kind(answer), value(answer)];
     let device = out::numbers(out, number, &access);
-    state::put(out, device, after)
+    state::put(out, device, before, after)
 }
 
 pub fn answer(row: &[u64], out: &mut [u8], at: usize) -> usize {
@@ -43,7 +43,7 @@ pub fn answer(row: &[u64], out: &mut [u8], at: usize) -> usize {
     match given::from_row(row::rest(words, 48)) {
         Given::Record(what) => {
             let done = device::finish(state::from_row(words), what, row::word(row, 0));
-            shown(out, at, done)
+            shown(out, at, words, done)
         }
         Given::None => out::no_row(out, at),
     }

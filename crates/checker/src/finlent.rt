@@ -31,7 +31,7 @@ pub fn answer(row: &[u64], out: &mut [u8], at: usize) -> usize {
     match given::from_row(row::rest(words, 48)) {
         Given::Record(what) => {
             let done = finish_lent(state::from_row(words), what, row::word(row, 0));
-            finish::shown(out, at, done)
+            finish::shown(out, at, words, done)
         }
         Given::None => out::no_row(out, at),
     }

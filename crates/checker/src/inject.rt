@@ -6,11 +6,11 @@ use super::row;
 use super::state;
 use guest::Injected;
 
-pub fn shown(out: &mut [u8], at: usize, done: Injected) -> usize {
+pub fn shown(out: &mut [u8], at: usize, before: &[u64], done: Injected) -> usize {
     let answer = done.answer;
     let after = done.state;
     let number = out::first(out, at, guest::number(answer) as u64);
-    state::put(out, number, after)
+    state::put(out, number, before, after)
 }
 
 pub fn answer(row: &[u64], out: &mut [u8], at: usize) -> usize {
@@ -21,7 +21,7 @@ pub fn answer(row: &[u64], out: &mut [u8], at: usize) -> usize {
     match injection::from_row(row) {
         Asked::Injection(what) => {
             let done = guest::inject(state::from_row(words), what);
-            shown(out, at, done)
+            shown(out, at, words, done)
         }
         Asked::None => out::no_row(out, at),
     }

@@ -29,7 +29,7 @@ pub fn answer(row: &[u64], out: &mut [u8], at: usize) -> usize {
     match injection::from_row(row) {
         Asked::Injection(what) => {
             let done = inject_lent(state::from_row(words), what);
-            inject::shown(out, at, done)
+            inject::shown(out, at, words, done)
         }
         Asked::None => out::no_row(out, at),
     }

@@ -2,8 +2,12 @@
 // asked with, and is answered by a line of numbers, or by `no row`. The second program makes the rows and their answers.
 //
 // Rows and their answers are described in second/README.md. Lines of any length take no more memory than the longest row.
+mod access;
 mod both;
 mod carry;
+mod decode;
+mod encode;
+mod fields;
 mod finish;
 mod finlent;
 mod given;
@@ -69,6 +73,15 @@ fn call(word: u64, row: &[u64], out: &mut [u8], at: usize) -> usize {
     if word == spelled(b"finlent") {
         return finlent::answer(row, out, at);
     }
+    if word == spelled(b"decode") {
+        return decode::answer(row, out, at);
+    }
+    if word == spelled(b"encode") {
+        return encode::answer(row, out, at);
+    }
+    if word == spelled(b"access") {
+        return access::answer(row, out, at);
+    }
     out::no_row(out, at)
 }
 
@@ -125,7 +138,7 @@ fn answers(out: &mut [u8], numbers: &mut [u64], chunk: &[u8], line: Line) -> Pro
 }
 
 // Writes the first bytes of a buffer. 65,536 bytes have room for all answers to a chunk: its 512 bytes end at most 64 rows, which have 8
-// bytes or more, no answer to a row has more than 512 bytes, and every other line is answered by 7.
+// bytes or more, no answer to a row has more than 1,024 bytes, and every other line is answered by 7.
 fn flush(out: &[u8], end: usize) -> bool {
     if end <= out.len() {
         io::write_all(STDOUT_FILENO, &out[..end])

@@ -1,5 +1,7 @@
 // Numbers appended to the answers.
+use super::row;
 use edition::Refusal;
+use std::num::wrapping_add_usize;
 
 pub fn no_row(out: &mut [u8], at: usize) -> usize {
     text::append(out, at, b"no row")
@@ -34,6 +36,26 @@ pub fn words(out: &mut [u8], at: usize, values: &[u32]) -> usize {
     let mut i = 0;
     while i < values.len() {
         end = next(out, end, wide(values[i]));
+        i += 1;
+    }
+    end
+}
+
+// A word after its place, where it isn't the number that stood there before.
+fn changed(out: &mut [u8], at: usize, before: &[u64], place: usize, word: u32) -> usize {
+    if row::long(before, place) == wide(word) {
+        return at;
+    }
+    let end = next(out, at, place as u64);
+    next(out, end, wide(word))
+}
+
+// Those of some words from a place on that aren't as before.
+pub fn changes(out: &mut [u8], at: usize, before: &[u64], place: usize, values: &[u32]) -> usize {
+    let mut end = at;
+    let mut i = 0;
+    while i < values.len() {
+        end = changed(out, end, before, wrapping_add_usize(place, i), values[i]);
         i += 1;
     }
     end

@@ -1,9 +1,11 @@
 // The numbers of a row.
 
-// The largest number of a kind: a flag (f), 8 bits (b), 32 bits (w), 64 bits (d); every other letter stands for 0 alone.
+// The largest number of a kind: a flag (f), one of ten transfers (t), 8 bits (b), 32 bits (w), 64 bits (d); every other letter stands for 0
+// alone.
 fn largest(kind: u8) -> u64 {
     match kind {
         b'f' => 1,
+        b't' => 9,
         b'b' => 0xFF,
         b'w' => 0xFFFF_FFFF,
         b'd' => u64::MAX,

@@ -72,29 +72,30 @@ pub fn from_row(row: &[u64]) -> Guest {
     }
 }
 
-fn put_saved(out: &mut [u8], at: usize, s: Saved) -> usize {
+fn put_saved(out: &mut [u8], at: usize, before: &[u64], s: Saved) -> usize {
     let words = [s.fiq, s.irq, s.svc, s.abt, s.und];
-    out::words(out, at, &words)
+    out::changes(out, at, before, 33, &words)
 }
 
-fn put_control(out: &mut [u8], at: usize, g: Guest) -> usize {
+fn put_control(out: &mut [u8], at: usize, before: &[u64], g: Guest) -> usize {
     let f = g.faults;
     let words = [f.dfsr, f.ifsr, f.dfar, f.ifar, g.sctlr, g.vbar, g.ttbcr];
-    out::words(out, at, &words)
+    out::changes(out, at, before, 38, &words)
 }
 
-fn put_marks(out: &mut [u8], at: usize, m: Marks) -> usize {
-    let flags = [m.pan as u64, m.ssbs as u64, m.dit as u64];
-    out::numbers(out, at, &flags)
+fn put_marks(out: &mut [u8], at: usize, before: &[u64], m: Marks) -> usize {
+    let flags = [m.pan as u32, m.ssbs as u32, m.dit as u32];
+    out::changes(out, at, before, 45, &flags)
 }
 
-pub fn put(out: &mut [u8], at: usize, g: Guest) -> usize {
+// A state by those of its numbers that aren't as in the state of a row, each after its place.
+pub fn put(out: &mut [u8], at: usize, before: &[u64], g: Guest) -> usize {
     let regs = g.regs;
     let spsr = g.saved;
     let places = [g.pc, g.status];
-    let registers = out::words(out, at, &regs);
-    let status = out::words(out, registers, &places);
-    let saved = put_saved(out, status, spsr);
-    let control = put_control(out, saved, g);
-    put_marks(out, control, g.marks)
+    let registers = out::changes(out, at, before, 0, &regs);
+    let status = out::changes(out, registers, before, 31, &places);
+    let saved = put_saved(out, status, before, spsr);
+    let control = put_control(out, saved, before, g);
+    put_marks(out, control, before, g.marks)
 }

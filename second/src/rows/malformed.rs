@@ -25,6 +25,11 @@ fn rows() -> Vec<String> {
         "hwrite 0 9 1 1 2 0 3 0 0 0 0 0 0 1 5",
         "widen 10 2 3 1 1 e 0 0 0 0 0 1",
         "spsr 1 0 1 1000010",
+        "decode e5910004",
+        "encode 0 0 e 1 1 0 1 0 4",
+        "encode 1 2 e 1 1 0 1 0 2",
+        "encode 2 4 e 1 0 4",
+        "encode 3 1 e 0 1 1 d 8000",
     ]
     .map(String::from)
     .into();
@@ -32,6 +37,7 @@ fn rows() -> Vec<String> {
         rows.push(format!("inject {injection}{state}"));
         rows.push(format!("lent {injection}{state}"));
     }
+    rows.push(format!("access e5910004{state}"));
     rows.push(format!("finish 1{state} 9 1 1 2 0 3 0 0 0 0 0 0 0 1 5"));
     rows.push(format!("finlent 1{state} 6 11 1 ffff"));
     rows
