@@ -198,8 +198,15 @@ impl Form {
         self.excluded.push(self.row.with(values));
     }
 
+    /// The number by which a library tells its forms.
+    #[cfg(feature = "compare")]
+    pub fn code(&self) -> u64 {
+        16 * self.addressing as u64 + u64::from(self.number)
+    }
+
     /// How many words it takes: fifteen conditions alike; the free bits that no
     /// exclusion names count twice each, and the others are enumerated.
+    #[cfg(any(feature = "compare", test))]
     pub fn words(&self) -> u64 {
         let always = self.row.with(&[('c', 14)]);
         let fixed = self.fixed.mask | self.row.with(&[('c', 15)]).mask;

@@ -8,6 +8,8 @@ mod cases;
 mod catalogue;
 #[cfg(feature = "compare")]
 mod compare;
+#[cfg(feature = "compare")]
+mod compare_a32;
 mod device;
 mod edition;
 mod form;
@@ -42,8 +44,9 @@ usage: second rows DIR
        second programs DIR
        second answer NAME
        second compare [FIRST LAST [STRIDE]]
+       second compare-a32 [STRIDE]
        second bench
-The last two need the feature `compare`.";
+The last three need the feature `compare`.";
 
 fn main() -> ExitCode {
     let arguments: Vec<String> = env::args().skip(1).collect();
@@ -75,6 +78,10 @@ fn run(words: &[&str]) -> io::Result<bool> {
         #[cfg(feature = "compare")]
         ["compare", range @ ..] => compare_range(range),
         #[cfg(feature = "compare")]
+        ["compare-a32"] => Ok(compare_a32::compare(1)),
+        #[cfg(feature = "compare")]
+        ["compare-a32", stride] => Ok(compare_a32::compare(stride_of(stride)?)),
+        #[cfg(feature = "compare")]
         ["bench"] => {
             bench::bench();
             Ok(true)
@@ -87,15 +94,19 @@ fn run(words: &[&str]) -> io::Result<bool> {
 #[cfg(feature = "compare")]
 fn compare_range(range: &[&str]) -> io::Result<bool> {
     let class = |word| u8::from_str_radix(word, 16).map_err(|_| usage());
-    let stride = |word: &str| word.parse().map_err(|_| usage());
     let (first, last, stride) = match *range {
         [] => (0, 0x3f, 1),
         [first, last] => (class(first)?, class(last)?, 1),
-        [first, last, every] => (class(first)?, class(last)?, stride(every)?),
+        [first, last, every] => (class(first)?, class(last)?, stride_of(every)?),
         _ => return Err(usage()),
     };
-    if first > last || last > 0x3f || stride == 0 {
+    if first > last || last > 0x3f {
         return Err(usage());
     }
     Ok(compare::compare(first..=last, stride))
+}
+
+#[cfg(feature = "compare")]
+fn stride_of(word: &str) -> io::Result<usize> {
+    word.parse().ok().filter(|&stride| stride > 0).ok_or_else(usage)
 }

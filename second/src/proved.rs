@@ -12,6 +12,8 @@ extern "C" {
     fn knucklepin_rewrite(reader: u32, writer: u32, word: u64) -> u64;
     fn knucklepin_short_read(edition: u32, word: u32) -> u64;
     fn knucklepin_short_rewrite(reader: u32, writer: u32, word: u32) -> u64;
+    fn knucklepin_a32_form(word: u32) -> u64;
+    fn knucklepin_a32_rewrite(word: u32) -> u64;
 }
 
 /// The proved reader and writer of a form.
@@ -48,4 +50,16 @@ fn read_short(edition: u32, word: u32) -> u64 {
 fn rewrite_short(reader: u32, writer: u32, word: u32) -> u64 {
     // SAFETY: the call takes and gives plain numbers and keeps no state.
     unsafe { knucklepin_short_rewrite(reader, writer, word) }
+}
+
+/// The form of an A32 word, its transfer's number and 16 for each way before its
+/// own to give the address, or `REFUSED`.
+pub fn a32_form(word: u32) -> u64 {
+    // SAFETY: the call takes and gives plain numbers and keeps no state.
+    unsafe { knucklepin_a32_form(word) }
+}
+
+pub fn a32_rewrite(word: u32) -> u64 {
+    // SAFETY: the call takes and gives plain numbers and keeps no state.
+    unsafe { knucklepin_a32_rewrite(word) }
 }

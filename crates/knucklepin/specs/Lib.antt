@@ -1,2 +1,3 @@
 pub mod Packed
 pub mod Short
+pub mod A32

@@ -1,7 +1,12 @@
-// The syndrome reader and writer for programs in other languages: `rt staticlib knucklepin`.
+// The readers and writers for programs in other languages: `rt staticlib knucklepin`.
 ghost use mathlib.Core.Path.{_≡_};
 ghost use Rattle.knucklepin.specs.Packed.{packedRefusal, packedRead, rewritten};
 ghost use Rattle.knucklepin.specs.Short.{packedShortRead, rewrittenShort};
+ghost use Rattle.knucklepin.specs.A32.{transferNumber, formNumber, a32Form, rewrittenA32};
+use a32_fields::Fields;
+use a32_fields::Transfer;
+use a32_rule::Decoded;
+use a32_rule::Encoded;
 use edition::Refusal;
 use record::Esr;
 use short_record::Hsr;
@@ -67,5 +72,68 @@ pub extern "C" fn knucklepin_short_rewrite(reader: u32, writer: u32, word: u32) 
             short::Written::Refused(_) => REFUSED,
         },
         short::Read::Refused(_) => REFUSED,
+    }
+}
+
+fn transfer_number(transfer: Transfer) -> u8
+    ensures { λ n. ⌜ n ≡ transferNumber transfer ⌝ }
+{
+    match transfer {
+        Transfer::Ldr => 0,
+        Transfer::Str => 1,
+        Transfer::Ldrb => 2,
+        Transfer::Strb => 3,
+        Transfer::Ldrh => 4,
+        Transfer::Strh => 5,
+        Transfer::Ldrsb => 6,
+        Transfer::Ldrsh => 7,
+        Transfer::Ldrd => 8,
+        Transfer::Strd => 9,
+    }
+}
+
+fn form_number(f: Fields) -> u64
+    ensures { λ n. ⌜ n ≡ formNumber f ⌝ }
+{
+    match f {
+        Fields::Immediate(r) => {
+            let transfer = r.transfer;
+            transfer_number(transfer) as u64
+        }
+        Fields::Register(r) => {
+            let transfer = r.transfer;
+            16 + transfer_number(transfer) as u64
+        }
+        Fields::Literal(r) => {
+            let transfer = r.transfer;
+            32 + transfer_number(transfer) as u64
+        }
+        Fields::Multiple(r) => { if r.load { 49 } else { 48 } }
+    }
+}
+
+// The form of a word that is an A32 load or store: its transfer's number, and 16 more with a register, 32 for a literal; 48 for STM and 49 for LDM.
+// All ones where the word is none.
+#[no_mangle]
+pub extern "C" fn knucklepin_a32_form(word: u32) -> u64
+    ensures { λ n. ⌜ n ≡ a32Form word ⌝ }
+{
+    match a32_rule::decode(word) {
+        Decoded::Taken(f) => form_number(f),
+        Decoded::Refused => REFUSED,
+    }
+}
+
+// Reads an A32 load or store and writes its fields: the word, or all ones where either refuses.
+#[no_mangle]
+pub extern "C" fn knucklepin_a32_rewrite(word: u32) -> u64
+    ensures { λ w. ⌜ w ≡ rewrittenA32 word ⌝ }
+{
+    match a32_rule::decode(word) {
+        Decoded::Taken(f) => match a32_rule::encode(f) {
+            Encoded::Word(instruction) => instruction as u64,
+            Encoded::Refused => REFUSED,
+        },
+        Decoded::Refused => REFUSED,
     }
 }
