@@ -128,11 +128,6 @@ impl Fields {
         head.iter().chain(&self.values).map(|&number| number.into()).collect()
     }
 
-    /// Whether U adds the offset.
-    pub fn adds(&self) -> bool {
-        self.addressing.letters().chars().zip(&self.values).any(|(c, &v)| c == 'u' && v == 1)
-    }
-
     /// The word of some form that has the fields, or none: refusal 19.
     pub fn word(&self, forms: &[Form]) -> Option<u32> {
         let same =

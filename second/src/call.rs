@@ -354,17 +354,14 @@ fn answered(answer: Result<Vec<u64>, Refusal>) -> Vec<u64> {
     }
 }
 
-/// The fields, the number of registers, the first address, 1 where the base's
-/// change is subtracted and its size, and sixteen numbers of registers, 0 after the
-/// last.
+/// The fields, the number of registers, the first address, the change of the base
+/// modulo 2^64, and sixteen numbers of registers, 0 after the last.
 fn access_row(fields: &Fields, effect: &a32::Effect) -> Vec<u64> {
     let count = effect.registers.len();
-    let minus = !fields.adds();
-    let size = effect.change.unsigned_abs();
-    let mut row = [fields.row(), row![count as u64, effect.address, minus, size]].concat();
-    let padding = std::iter::repeat_n(0, 16 - count);
-    row.extend(effect.registers.iter().copied().chain(padding).map(u64::from));
-    row
+    let change = effect.change as u64;
+    let padding = std::iter::repeat_n(&0, 16 - count);
+    let registers = effect.registers.iter().chain(padding).map(|&number| number.into()).collect();
+    [fields.row(), row![count as u64, effect.address, change], registers].concat()
 }
 
 fn registers_row(registers: &Registers) -> Vec<u64> {

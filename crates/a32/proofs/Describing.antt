@@ -17,10 +17,10 @@ use Rattle.a32_rule.specs.declared.answer.Decoded.{Decoded}
 use Rattle.a32_rule.proofs.Forms.{taken-form, refused-form}
 use Rattle.a32_access.specs.Transferred.{registersOf, padded}
 use Rattle.a32_access.specs.Access.{accessIn}
-use Rattle.a32.specs.Tests.{accessOf, answerNumber, describeNumbers, describeTests, describedAnswer, registersIn, Describing}
+use Rattle.a32.specs.Promise.{accessOf, answerNumber, describeNumbers, describeTests, describedAnswer, registersIn, Describing}
 use Rattle.a32_access.specs.declared.access.Access.{Access}
 use Rattle.a32.specs.declared.instruction.Answer.{Answer}
-use Rattle.a32.specs.declared.instruction.Answer.the-variants.{Taken, UnsoundStatus, NoForm}
+use Rattle.a32.specs.declared.instruction.Answer.the-variants.{Taken, UnsoundStatus, T32State, NoForm}
 
 module _ (s : Guest) (w : ℕ) where
   pub describe-number : answerNumber (describedAnswer s w) ≡ decide (describeNumbers s w) 0
@@ -33,7 +33,7 @@ module _ (s : Guest) (w : ℕ) where
   first-fails k = simp k
 
   module _ (k : sound (s .marks) (s .status) ≡ true) where
-    pub second-fails : t32 (s .status) ≡ true → describedAnswer s w ≡ NoForm
+    pub second-fails : t32 (s .status) ≡ true → describedAnswer s w ≡ T32State
     unfolding describedAnswer
     second-fails m = simp (k, m)
 
@@ -48,13 +48,13 @@ module _ (s : Guest) (w : ℕ) where
 
   promised : {a : Answer} {registers : List ℕ} → a ≡ describedAnswer s w → registers ≡ registersIn a
       → Describing s w (record { answer = a; registers = registers })
-  promised same held = record { answer = same; number = ap answerNumber same ∙ describe-number; registers = held }
+  promised same held = record { answer = same; number = ap answerNumber same ∙ describe-number; mask = refl; count = refl; registers = held }
 
   pub unsound : sound (s .marks) (s .status) ≡ false → Describing s w (record { answer = UnsoundStatus; registers = padded 16 [] })
   unsound k = promised (sym (first-fails k)) refl
 
   module _ (k : sound (s .marks) (s .status) ≡ true) where
-    pub thumb : t32 (s .status) ≡ true → Describing s w (record { answer = NoForm; registers = padded 16 [] })
+    pub thumb : t32 (s .status) ≡ true → Describing s w (record { answer = T32State; registers = padded 16 [] })
     thumb m = promised (sym (second-fails k m)) refl
 
     module _ (m : t32 (s .status) ≡ false) where

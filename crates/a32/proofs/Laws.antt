@@ -18,7 +18,7 @@ use Rattle.a32_rule.specs.Answer.{isForm}
 use Rattle.a32_rule.proofs.Answers.{decode-taken}
 use Rattle.a32_rule.proofs.Forms.{decode-exactly, taken-form}
 use Rattle.a32_access.specs.declared.access.Access.{Access}
-use Rattle.a32.specs.Tests.{accessOf, answerNumber, describeNumbers, describedAnswer}
+use Rattle.a32.specs.Promise.{accessOf, answerNumber, describeNumbers, describedAnswer}
 use Rattle.a32.specs.declared.instruction.Answer.the-variants.{Taken}
 use Rattle.a32.proofs.Describing.{describe-number, first-fails, second-fails, third-fails, none-fails}
 

@@ -1,5 +1,6 @@
 // The call over a guest's state.
-ghost use Rattle.a32.specs.Tests.{Describing};
+ghost use mathlib.Core.Path.{_≡_};
+ghost use Rattle.a32.specs.Promise.{answerNumber, Describing};
 use a32_access::Access;
 use a32_access::access_in;
 use a32_access::registers_of;
@@ -14,8 +15,22 @@ pub enum Answer {
     Taken(Access),
     // 9: the status word's mode, or a bit of its 24:21, is wrong.
     UnsoundStatus,
-    // 19: the guest is in T32 state, or the word is none of these forms.
+    // 19: the guest is in T32 state.
+    T32State,
+    // 19: the word is none of these forms, or its decoding is UNPREDICTABLE.
     NoForm,
+}
+
+// The number of an answer.
+pub fn number(answer: Answer) -> u32
+    ensures { λ n. ⌜ n ≡ answerNumber answer ⌝ }
+{
+    match answer {
+        Answer::Taken(_) => 0,
+        Answer::UnsoundStatus => 9,
+        Answer::T32State => 19,
+        Answer::NoForm => 19,
+    }
 }
 
 // The answer, with the registers in transfer order: as many as the access counts, and 0 after them.
@@ -37,7 +52,7 @@ pub fn describe(state: Guest, word: u32) -> Described
     }
     if t32(state.status) {
         return Described {
-            answer: Answer::NoForm,
+            answer: Answer::T32State,
             registers: none,
         };
     }

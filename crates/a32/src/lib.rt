@@ -4,3 +4,4 @@ mod instruction;
 pub use instruction::Answer;
 pub use instruction::Described;
 pub use instruction::describe;
+pub use instruction::number;

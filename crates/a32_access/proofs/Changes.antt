@@ -10,26 +10,21 @@ use Rattle.status.specs.Mode.{isMode}
 use Rattle.status.specs.Register.{numberIn}
 use Rattle.a32_fields.specs.declared.kinds.Fields.{Fields}
 use Rattle.a32_access.specs.Value.{valueOf}
-use Rattle.a32_access.specs.Place.{upOf, backOf, signed, changeOf, changed}
-use Rattle.a32_access.specs.declared.place.Change.the-variants.{Plus, Minus}
+use Rattle.a32_access.specs.Place.{upOf, backOf, signed, changeBy, changeOf, changed}
+use Rattle.a32_access.specs.declared.place.Change.the-variants.{Plus}
 
 -- a size, added or subtracted
-by-sign : (u : Bool) (n : ℕ) → changed (cond u (Plus n) (Minus n)) ≡ signed u n
+by-sign : (u : Bool) (n : ℕ) → changed (changeBy u n) ≡ signed u n
 by-sign true n = refl
 by-sign false n = refl
-
-none-either-way : (u : Bool) → signed u 0 ≡ pos 0
-none-either-way true = refl
-none-either-way false = refl
 
 module _ (f : Fields) (size : ℕ) where
   -- THE CHANGE as a signed number: the offset where the base is written back, else 0
   pub change-signed : backOf f ≡ true → changed (changeOf f size) ≡ signed (upOf f) size
-  change-signed h = by-sign (upOf f) (cond (backOf f) size 0) ∙ ap (λ (b : Bool). signed (upOf f) (cond b size 0)) h
+  change-signed h = ap (λ (b : Bool). changed (cond b (changeBy (upOf f) size) (Plus 0))) h ∙ by-sign (upOf f) size
 
   pub change-none : backOf f ≡ false → changed (changeOf f size) ≡ pos 0
-  change-none h =
-      by-sign (upOf f) (cond (backOf f) size 0) ∙ ap (λ (b : Bool). signed (upOf f) (cond b size 0)) h ∙ none-either-way (upOf f)
+  change-none h = ap (λ (b : Bool). changed (cond b (changeBy (upOf f) size) (Plus 0))) h
 
 -- register 13 in Supervisor mode is the state's 19
 pub supervisor-stack : (regs : List ℕ) (pc : ℕ) → valueOf regs pc 0x13 13 ≡ getD regs 19 0

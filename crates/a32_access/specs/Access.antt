@@ -4,7 +4,7 @@ use Prim.Native.Nat.{ℕ}
 use mathlib.Core.List.{List}
 use Rattle.a32_fields.specs.declared.kinds.Fields.{Fields}
 use Rattle.a32_access.specs.Transferred.{countOf}
-use Rattle.a32_access.specs.Place.{baseOf, sizeOf, addressOf, changeOf}
+use Rattle.a32_access.specs.Place.{baseOf, offsetOf, addressOf, changeOf}
 use Rattle.a32_access.specs.declared.access.Access.{Access}
 
 abbrev pub accessIn : List ℕ → ℕ → ℕ → Fields → Access
@@ -12,6 +12,6 @@ accessIn regs pc mode f =
     record {
       fields = f;
       count = countOf f;
-      address = addressOf f (baseOf regs pc mode f) (sizeOf regs pc mode f);
-      change = changeOf f (sizeOf regs pc mode f);
+      address = addressOf f (baseOf regs pc mode f) (offsetOf regs pc mode f);
+      change = changeOf f (offsetOf regs pc mode f);
     }

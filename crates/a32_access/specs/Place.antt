@@ -11,18 +11,18 @@ use Rattle.a32_access.specs.Value.{valueOf, literalBase}
 use Rattle.a32_access.specs.declared.place.Change.{Change}
 use Rattle.a32_access.specs.declared.place.Change.the-variants.{Plus, Minus}
 
--- the value of the base, and the offset: an immediate, a register's value, or 4 for each register of a list
+-- the value of the base, and the size of the offset: an immediate, a register's value as unsigned, or 4 for each register of a list
 abbrev pub baseOf : List ℕ → ℕ → ℕ → Fields → ℕ
 baseOf regs pc mode (Fields.Immediate r) = valueOf regs pc mode (r .rn)
 baseOf regs pc mode (Fields.Register r) = valueOf regs pc mode (r .rn)
 baseOf regs pc mode (Fields.Literal r) = literalBase pc
 baseOf regs pc mode (Fields.Multiple r) = valueOf regs pc mode (r .rn)
 
-abbrev pub sizeOf : List ℕ → ℕ → ℕ → Fields → ℕ
-sizeOf regs pc mode (Fields.Immediate r) = r .imm
-sizeOf regs pc mode (Fields.Register r) = valueOf regs pc mode (r .rm)
-sizeOf regs pc mode (Fields.Literal r) = r .imm
-sizeOf regs pc mode (Fields.Multiple r) = 4 * ones (r .list)
+abbrev pub offsetOf : List ℕ → ℕ → ℕ → Fields → ℕ
+offsetOf regs pc mode (Fields.Immediate r) = r .imm
+offsetOf regs pc mode (Fields.Register r) = valueOf regs pc mode (r .rm)
+offsetOf regs pc mode (Fields.Literal r) = r .imm
+offsetOf regs pc mode (Fields.Multiple r) = 4 * ones (r .list)
 
 abbrev pub upOf : Fields → Bool
 upOf (Fields.Immediate r) = r .u
@@ -37,7 +37,8 @@ backOf (Fields.Register r) = writesBack (r .p) (r .w)
 backOf (Fields.Literal r) = false
 backOf (Fields.Multiple r) = r .w
 
--- a list's first address is above the base by 4 (IB) or nothing (IA), or below it by the whole size (DB) or 4 less (DA)
+-- a list's first address is above the base by 4 (IB) or nothing (IA), or below it by the whole size (DB) or 4 less (DA); a legal list has some
+-- register, so its size is at least 4 (`list-some`, proofs/Counts.antt)
 abbrev pub listDistance : Bool → Bool → ℕ → ℕ
 listDistance p u size = cond u (cond p 4 0) (cond p size (size - 4))
 
@@ -57,10 +58,14 @@ signed false n = negℤ (pos n)
 abbrev pub addressOf : Fields → ℕ → ℕ → ℕ
 addressOf f base size = linkOf base (signed (upOf f) (distanceOf f size))
 
--- THE CHANGE of the base, and the signed number that it is
-abbrev pub changeOf : Fields → ℕ → Change
-changeOf f size = cond (upOf f) (Plus (cond (backOf f) size 0)) (Minus (cond (backOf f) size 0))
+-- THE CHANGE of the base: the offset, added or subtracted, where the base is written back, else 0
+abbrev pub changeBy : Bool → ℕ → Change
+changeBy u size = cond u (Plus size) (Minus size)
 
+abbrev pub changeOf : Fields → ℕ → Change
+changeOf f size = cond (backOf f) (changeBy (upOf f) size) (Plus 0)
+
+-- the signed number that it is
 abbrev pub changed : Change → ℤ
 changed (Plus n) = pos n
 changed (Minus n) = negℤ (pos n)

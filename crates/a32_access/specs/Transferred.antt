@@ -1,8 +1,9 @@
 -- The registers of a load or store in transfer order (02, C-18): the lowest first, from the lowest address on.
 use Prim.Native.Nat.{ℕ, zero, suc, _+_, _%_, _^_}
-use mathlib.Core.Bool.{cond}
+use mathlib.Core.Bool.{Bool, true, cond, _&&_}
 use mathlib.Core.List.{List, [], _∷_, _++_}
 use lib.Count.{ones}
+use lib.Dec.{ltb}
 use Rattle.bits.specs.Field.{bitOf}
 use Rattle.a32_fields.specs.Code.{dual}
 use Rattle.a32_fields.specs.declared.kinds.Transfer.{Transfer}
@@ -38,3 +39,8 @@ abbrev pub padded : ℕ → List ℕ → List ℕ
 padded zero l = []
 padded (suc n) [] = 0 ∷ padded n []
 padded (suc n) (x ∷ xs) = x ∷ padded n xs
+
+-- every number of a list is below n: the registers of legal fields are 0 to 15 (`registers-below`, proofs/Numbers.antt)
+abbrev pub allBelow : ℕ → List ℕ → Bool
+allBelow n [] = true
+allBelow n (x ∷ xs) = ltb x n && allBelow n xs

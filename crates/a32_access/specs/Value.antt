@@ -12,9 +12,13 @@ abbrev pub heldValue : List ℕ → Held → ℕ
 heldValue regs (Held.Register n) = getD regs n 0
 heldValue regs Held.Nowhere = 0
 
-unfoldable pub valueOf : List ℕ → ℕ → ℕ → ℕ → ℕ
-valueOf regs pc mode n = cond (eqb n 15) ((pc + 8) % 2 ^ 32) (heldValue regs (heldIn mode n))
+-- register 15
+abbrev pub programCounter : ℕ → ℕ
+programCounter pc = (pc + 8) % 2 ^ 32
 
--- a literal's base: PC plus 8, down to a multiple of 4
+unfoldable pub valueOf : List ℕ → ℕ → ℕ → ℕ → ℕ
+valueOf regs pc mode n = cond (eqb n 15) (programCounter pc) (heldValue regs (heldIn mode n))
+
+-- a literal's base: register 15, down to a multiple of 4
 unfoldable pub literalBase : ℕ → ℕ
-literalBase pc = (pc + 8) % 2 ^ 32 / 4 * 4
+literalBase pc = programCounter pc / 4 * 4

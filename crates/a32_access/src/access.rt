@@ -1,13 +1,14 @@
-// What a load or store does, from the registers and the PC of a mode.
+// What a load or store does, from the registers, the PC and the mode.
 ghost use mathlib.Core.Path.{_≡_};
 ghost use Prim.Native.Nat.{_*_};
 ghost use lib.Count.{ones};
-ghost use Rattle.a32_access.specs.Place.{baseOf, sizeOf};
+ghost use Rattle.a32_access.specs.Place.{baseOf, offsetOf};
 ghost use Rattle.a32_access.specs.Access.{accessIn};
 use crate::place::Change;
 use crate::place::address_of;
 use crate::place::change_of;
 use crate::registers::count_of;
+use crate::registers::ones_of;
 use crate::value::literal_base;
 use crate::value::value_of;
 use a32_fields::Fields;
@@ -35,12 +36,12 @@ fn base_of(regs: [u32; 31], pc: u32, mode: u32, f: Fields) -> u32
 fn list_size(list: u32) -> u32
     ensures { λ r. ⌜ r ≡ 4 * ones list ⌝ }
 {
-    4 * u32::count_ones(list)
+    4 * ones_of(list)
 }
 
 // An offset register counts as unsigned.
-fn size_of(regs: [u32; 31], pc: u32, mode: u32, f: Fields) -> u32
-    ensures { λ r. ⌜ r ≡ sizeOf regs pc mode f ⌝ }
+fn offset_of(regs: [u32; 31], pc: u32, mode: u32, f: Fields) -> u32
+    ensures { λ r. ⌜ r ≡ offsetOf regs pc mode f ⌝ }
 {
     match f {
         Fields::Immediate(r) => r.imm,
@@ -53,7 +54,7 @@ fn size_of(regs: [u32; 31], pc: u32, mode: u32, f: Fields) -> u32
 pub fn access_in(regs: [u32; 31], pc: u32, mode: u32, f: Fields) -> Access
     ensures { λ r. ⌜ r ≡ accessIn regs pc mode f ⌝ }
 {
-    let size = size_of(regs, pc, mode, f);
+    let size = offset_of(regs, pc, mode, f);
     let change = change_of(f, size);
     Access {
         fields: f,

@@ -2,7 +2,7 @@
 ghost use mathlib.Core.Path.{_≡_};
 ghost use mathlib.Core.Bool.{cond};
 ghost use Rattle.guest.specs.Link.{linkOf};
-ghost use Rattle.a32_access.specs.Place.{upOf, backOf, listDistance, distanceOf, signed, addressOf, changeOf};
+ghost use Rattle.a32_access.specs.Place.{upOf, backOf, listDistance, distanceOf, signed, addressOf, changeBy, changeOf};
 use a32_fields::Fields;
 use std::num::wrapping_add_u32;
 use std::num::wrapping_sub_u32;
@@ -86,13 +86,23 @@ pub(crate) fn address_of(f: Fields, base: u32, size: u32) -> u32
     moved(base, up(f), distance(f, size))
 }
 
+fn change_by(up: bool, size: u32) -> Change
+    ensures { λ r. ⌜ r ≡ changeBy up size ⌝ }
+{
+    if up {
+        Change::Plus(size)
+    } else {
+        Change::Minus(size)
+    }
+}
+
+// Nothing without write-back.
 pub(crate) fn change_of(f: Fields, size: u32) -> Change
     ensures { λ r. ⌜ r ≡ changeOf f size ⌝ }
 {
-    let by = indexed(back(f), size);
-    if up(f) {
-        Change::Plus(by)
+    if back(f) {
+        change_by(up(f), size)
     } else {
-        Change::Minus(by)
+        Change::Plus(0)
     }
 }

@@ -65,7 +65,7 @@ fn number_from(transfer: Transfer) -> u32
 }
 
 // For a list, its number of ones.
-fn ones_of(list: u32) -> u32
+pub(crate) fn ones_of(list: u32) -> u32
     ensures { λ r. ⌜ r ≡ ones list ⌝ }
 {
     u32::count_ones(list)

@@ -1,4 +1,4 @@
--- The fields at the bits of legal fields' word are those fields. One law over layouts, `all-back`, gives every field; each form reads its own off.
+-- The fields at the bits of the word of some fields, which fit and whose form is their own, are those fields. One law over layouts, `all-back`, gives every field; each form reads its own off.
 -- Assumes nothing.
 use mathlib.Core.Path.{_≡_, refl, _∙_, sym, ap, ap₂}
 use mathlib.Core.Bool.{Bool, true, false, cond, not, _&&_}

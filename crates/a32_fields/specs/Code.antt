@@ -3,15 +3,15 @@
 --     LDR, STR, LDRB, STRB         27:25 is 010 with an immediate or a literal, 011 with a register; B is bit 22, L is bit 20
 --     LDRH, STRH, LDRSB, LDRSH,
 --     LDRD, STRD                   27:25 is 000, bits 7 and 4 are 1; bit 22 is 1 with an immediate or a literal, 0 with a register;
---                                  bits 6 and 5 (S and H) and L, bit 20, say which
---     LDM, STM                     27:25 is 100, bit 22 (S) is 0; L is bit 20
+--                                  bits 6 and 5 and L, bit 20, say which
+--     LDM, STM                     27:25 is 100, bit 22 (the manual's S) is 0; L is bit 20
 use mathlib.Core.Bool.{Bool, true, false}
 use Rattle.a32_fields.specs.declared.kinds.Transfer.{Transfer}
 use Rattle.a32_fields.specs.declared.kinds.Transfer.the-variants.{Ldr, Str, Ldrb, Strb, Ldrh, Strh, Ldrsb, Ldrsh, Ldrd, Strd}
 use Rattle.a32_fields.specs.declared.kinds.Code.{Code}
 use Rattle.a32_fields.specs.declared.kinds.Code.the-variants.{Word, Extra}
 
--- B and L; or S, H and L
+-- B and L; or bits 6 and 5, and L
 abbrev pub codeOf : Transfer → Code
 codeOf Ldr = Word false true
 codeOf Str = Word false false

@@ -1,5 +1,20 @@
--- Where each form's fields stand in the word (02, C-18; the manual's encodings A1). Bits that no line names are 0: bits 11:4 of a word or byte with a
--- register offset (LSL by 0, so a plain register), bits 11:8 of the others with one.
+-- Where each form's fields stand in the word (02, C-18; the manual's encodings A1). Bits that no line names are 0: of a word or byte with a register
+-- offset imm5 and type, bits 11:5 (LSL by 0, so a plain register), and bit 4; of the others with one bits 11:8. Form by form, the condition c, Rn n,
+-- Rt t, Rm m, an immediate i and a list r:
+--
+--               with an immediate                  with a register                    literal
+--     LDR       cccc010pu0w1nnnnttttiiiiiiiiiiii   cccc011pu0w1nnnntttt00000000mmmm   cccc0101u0011111ttttiiiiiiiiiiii
+--     STR       cccc010pu0w0nnnnttttiiiiiiiiiiii   cccc011pu0w0nnnntttt00000000mmmm
+--     LDRB      cccc010pu1w1nnnnttttiiiiiiiiiiii   cccc011pu1w1nnnntttt00000000mmmm   cccc0101u1011111ttttiiiiiiiiiiii
+--     STRB      cccc010pu1w0nnnnttttiiiiiiiiiiii   cccc011pu1w0nnnntttt00000000mmmm
+--     LDRH      cccc000pu1w1nnnnttttiiii1011iiii   cccc000pu0w1nnnntttt00001011mmmm   cccc0001u1011111ttttiiii1011iiii
+--     STRH      cccc000pu1w0nnnnttttiiii1011iiii   cccc000pu0w0nnnntttt00001011mmmm
+--     LDRSB     cccc000pu1w1nnnnttttiiii1101iiii   cccc000pu0w1nnnntttt00001101mmmm   cccc0001u1011111ttttiiii1101iiii
+--     LDRSH     cccc000pu1w1nnnnttttiiii1111iiii   cccc000pu0w1nnnntttt00001111mmmm   cccc0001u1011111ttttiiii1111iiii
+--     LDRD      cccc000pu1w0nnnnttttiiii1101iiii   cccc000pu0w0nnnntttt00001101mmmm   cccc0001u1001111ttttiiii1101iiii
+--     STRD      cccc000pu1w0nnnnttttiiii1111iiii   cccc000pu0w0nnnntttt00001111mmmm
+--     LDM       cccc100pu0w1nnnnrrrrrrrrrrrrrrrr
+--     STM       cccc100pu0w0nnnnrrrrrrrrrrrrrrrr
 use Prim.Native.Nat.{ℕ, _/_, _%_}
 use mathlib.Core.Bool.{Bool, true, false}
 use mathlib.Core.List.{List, [], _∷_}

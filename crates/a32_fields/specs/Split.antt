@@ -1,5 +1,5 @@
 -- The fields at a word's bits, by the group in 27:25 (Layout.antt read the other way). Nothing here has to be believed beside those lines: it takes the
--- word of legal fields back to them (`fields-back`, proofs/RoundTrip.antt).
+-- word of fields that fit, and whose form is their own, back to them (`fields-back`, proofs/RoundTrip.antt).
 use Prim.Native.Nat.{ℕ, _+_, _*_}
 use mathlib.Core.Bool.{Bool, cond, _&&_}
 use lib.Dec.{eqb}

@@ -23,7 +23,7 @@ fn word_transfer(b: bool, l: bool) -> Transfer
     }
 }
 
-// The transfers of bytes that are extended by their sign, and of two registers.
+// Loads that are extended by their sign, and transfers of two registers.
 fn signed_transfer(h: bool, l: bool) -> Transfer
     ensures { λ r. ⌜ r ≡ cond l (cond h Ldrsh Ldrsb) (cond h Strd Ldrd) ⌝ }
 {

@@ -47,7 +47,7 @@ module _ (w : ℕ) where
   decode-refused h = ap (λ (b : Bool). cond b (Decoded.Taken (fieldsAt w)) Decoded.Refused) h
 
   decoding : Decoding w (decodeOf w)
-  decoding = record { answer = refl; number = by (isForm w) refl }
+  decoding = record { answer = refl; number = by (isForm w) refl; mask = refl; count = refl }
     where
       by : (b : Bool) → isForm w ≡ b → numberDecoded (decodeOf w) ≡ decide (needs (isForm w) 19 ∷ []) 0
       by true h = ap numberDecoded (decode-taken h) ∙ sym (ap (λ (b : Bool). cond b 0 19) h)
@@ -82,7 +82,7 @@ module _ (f : Fields) where
   encode-refused h = ap (λ (b : Bool). cond b (Encoded.Word (fieldsWord f)) Encoded.Refused) h
 
   encoding : Encoding f (encodeOf f)
-  encoding = record { answer = refl; number = by (legal f) refl }
+  encoding = record { answer = refl; number = by (legal f) refl; mask = refl; count = refl }
     where
       by : (b : Bool) → legal f ≡ b → numberEncoded (encodeOf f) ≡ decide (needs (legal f) 19 ∷ []) 0
       by true h = ap numberEncoded (encode-word h) ∙ sym (ap (λ (b : Bool). cond b 0 19) h)

@@ -12,7 +12,7 @@ use Rattle.a32_fields.specs.Layout.{fieldsOf}
 use Rattle.a32_fields.specs.declared.kinds.Multiple.{Multiple}
 use Rattle.a32_fields.specs.declared.kinds.Fields.{Fields}
 use Rattle.a32_fields.proofs.RoundTrip.{ownForm}
-use Rattle.a32_rule.specs.Rule.{indexing, writesBack, backRule, immediateRule}
+use Rattle.a32_rule.specs.Rule.{pwRule, writesBack, backRule, immediateRule}
 use Rattle.a32_rule.specs.Legal.{conditionOf, formRule, legal}
 use Rattle.a32_rule.specs.Inner.{targetRule, transferredBy}
 use Rattle.a32_rule.proofs.Rules.{immediate-by, literal-by}
@@ -21,7 +21,7 @@ use Rattle.a32_rule.proofs.Fits.{legal-multiple}
 own-by-rule : (f : Fields) → formRule f ≡ true → ownForm f ≡ true
 own-by-rule (Fields.Immediate r) h =
     let back = writesBack (r .p) (r .w) in
-    let rule = immediate-by back (r .rn) (r .rt) (r .transfer) ∙ and-right (indexing (r .p) (r .w)) (immediateRule (r .transfer) back (r .rn) (r .rt)) h in
+    let rule = immediate-by back (r .rn) (r .rt) (r .transfer) ∙ and-right (pwRule (r .p) (r .w)) (immediateRule (r .transfer) back (r .rn) (r .rt)) h in
     and-right (targetRule (r .transfer) (r .rt)) (not (loads (r .transfer) && eqb (r .rn) 15))
     (and-left (targetRule (r .transfer) (r .rt) && not (loads (r .transfer) && eqb (r .rn) 15)) (backRule back (r .rn) (transferredBy (r .transfer) (r .rt))) rule)
 own-by-rule (Fields.Register r) h = refl

@@ -36,11 +36,28 @@ abbrev pub numberEncoded : Encoded → ℕ
 numberEncoded (Encoded.Word w) = 0
 numberEncoded Encoded.Refused = 19
 
--- THE PROMISES: the answer and its number
+-- no refusal but 6 carries a mask or a count
+abbrev pub maskDecoded : Decoded → ℕ
+maskDecoded d = 0
+
+abbrev pub countDecoded : Decoded → ℕ
+countDecoded d = 0
+
+abbrev pub maskEncoded : Encoded → ℕ
+maskEncoded e = 0
+
+abbrev pub countEncoded : Encoded → ℕ
+countEncoded e = 0
+
+-- THE PROMISES: the answer, its number, mask and count
 pub record Decoding (w : ℕ) (d : Decoded) : Type 0 where
   pub answer : d ≡ decodeOf w
   pub number : numberDecoded d ≡ decide (needs (isForm w) 19 ∷ []) 0
+  pub mask : maskDecoded d ≡ 0
+  pub count : countDecoded d ≡ 0
 
 pub record Encoding (f : Fields) (e : Encoded) : Type 0 where
   pub answer : e ≡ encodeOf f
   pub number : numberEncoded e ≡ decide (needs (legal f) 19 ∷ []) 0
+  pub mask : maskEncoded e ≡ 0
+  pub count : countEncoded e ≡ 0

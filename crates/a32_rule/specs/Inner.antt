@@ -1,10 +1,10 @@
 -- Inner contracts, which nobody has to believe: each is shown to be a definition of the other files where it matters.
-use Prim.Native.Nat.{ℕ, _+_}
+use Prim.Native.Nat.{ℕ}
 use mathlib.Core.Bool.{Bool, true, false, cond, not}
 use mathlib.Core.List.{List, [], _∷_}
 use lib.Dec.{eqb, ltb}
 use Rattle.a32_fields.specs.Code.{dual}
-use Rattle.a32_rule.specs.Rule.{pairRule}
+use Rattle.a32_rule.specs.Rule.{pair, pairRule}
 use Rattle.a32_fields.specs.declared.kinds.Code.{Code}
 use Rattle.a32_fields.specs.declared.kinds.Code.the-variants.{Word, Extra}
 use Rattle.a32_fields.specs.declared.kinds.Transfer.{Transfer}
@@ -34,4 +34,4 @@ targetRule transfer t = cond (dual transfer) (pairRule t) (cond (narrow transfer
 
 -- the registers of a transfer of one or two
 abbrev pub transferredBy : Transfer → ℕ → List ℕ
-transferredBy transfer t = cond (dual transfer) (t ∷ (t + 1) ∷ []) (t ∷ [])
+transferredBy transfer t = cond (dual transfer) (pair t) (t ∷ [])

@@ -5,7 +5,7 @@ use mathlib.Core.Bool.{Bool, not, _&&_}
 use lib.Dec.{eqb}
 use Rattle.bits.specs.Layout.{fitting}
 use Rattle.a32_fields.specs.Layout.{fieldsOf}
-use Rattle.a32_rule.specs.Rule.{indexing, writesBack, immediateRule, registerRule, literalRule, multipleRule}
+use Rattle.a32_rule.specs.Rule.{pwRule, writesBack, immediateRule, registerRule, literalRule, multipleRule}
 use Rattle.a32_fields.specs.declared.kinds.Fields.{Fields}
 
 abbrev pub conditionOf : Fields → ℕ
@@ -15,8 +15,8 @@ conditionOf (Fields.Literal r) = r .cond
 conditionOf (Fields.Multiple r) = r .cond
 
 abbrev pub formRule : Fields → Bool
-formRule (Fields.Immediate r) = indexing (r .p) (r .w) && immediateRule (r .transfer) (writesBack (r .p) (r .w)) (r .rn) (r .rt)
-formRule (Fields.Register r) = indexing (r .p) (r .w) && registerRule (r .transfer) (writesBack (r .p) (r .w)) (r .rn) (r .rt) (r .rm)
+formRule (Fields.Immediate r) = pwRule (r .p) (r .w) && immediateRule (r .transfer) (writesBack (r .p) (r .w)) (r .rn) (r .rt)
+formRule (Fields.Register r) = pwRule (r .p) (r .w) && registerRule (r .transfer) (writesBack (r .p) (r .w)) (r .rn) (r .rt) (r .rm)
 formRule (Fields.Literal r) = literalRule (r .transfer) (r .rt)
 formRule (Fields.Multiple r) = multipleRule (r .load) (r .w) (r .rn) (r .list)
 

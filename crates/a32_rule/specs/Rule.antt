@@ -1,5 +1,5 @@
--- What the manual calls UNPREDICTABLE or another instruction (02, C-18), form by form, from the decoding of each encoding A1. n, t and m are the numbers
--- of Rn, Rt and Rm; `back` says that the base is written back.
+-- The rules of the forms (02, C-18), one by one, from the decoding of each encoding A1: each is true where the manual calls the fields neither
+-- UNPREDICTABLE nor another instruction. n, t and m are the numbers of Rn, Rt and Rm; `back` says that the base is written back.
 use Prim.Native.Nat.{ℕ, _+_, _%_}
 use mathlib.Core.Bool.{Bool, true, false, not, _&&_, _||_}
 use mathlib.Core.List.{List, [], _∷_}
@@ -9,8 +9,8 @@ use Rattle.a32_fields.specs.declared.kinds.Transfer.{Transfer}
 use Rattle.a32_fields.specs.declared.kinds.Transfer.the-variants.{Ldr, Str, Ldrb, Strb, Ldrh, Strh, Ldrsb, Ldrsh, Ldrd, Strd}
 
 -- P 0 with W 1 is an unprivileged form (LDRT, STRT, LDRBT, STRBT, LDRHT, STRHT, LDRSBT, LDRSHT), and of LDRD and STRD UNPREDICTABLE
-abbrev pub indexing : Bool → Bool → Bool
-indexing p w = p || not w
+abbrev pub pwRule : Bool → Bool → Bool
+pwRule p w = p || not w
 
 -- the base is written back: post-indexed or pre-indexed
 abbrev pub writesBack : Bool → Bool → Bool
@@ -25,7 +25,11 @@ among (k ∷ ks) n = eqb n k || among ks n
 abbrev pub backRule : Bool → ℕ → List ℕ → Bool
 backRule back n ts = not (back && among (15 ∷ ts) n)
 
--- the first of two registers is even and not 14: the second would be 15
+-- two registers: Rt and the one after it
+abbrev pub pair : ℕ → List ℕ
+pair t = t ∷ (t + 1) ∷ []
+
+-- the first of two is even and not 14: the second would be 15
 abbrev pub pairRule : ℕ → Bool
 pairRule t = eqb (t % 2) 0 && not (eqb t 14)
 
@@ -39,8 +43,8 @@ immediateRule Ldrh back n t = not (eqb t 15) && not (eqb n 15) && backRule back 
 immediateRule Strh back n t = not (eqb t 15) && backRule back n (t ∷ [])
 immediateRule Ldrsb back n t = not (eqb t 15) && not (eqb n 15) && backRule back n (t ∷ [])
 immediateRule Ldrsh back n t = not (eqb t 15) && not (eqb n 15) && backRule back n (t ∷ [])
-immediateRule Ldrd back n t = pairRule t && not (eqb n 15) && backRule back n (t ∷ (t + 1) ∷ [])
-immediateRule Strd back n t = pairRule t && backRule back n (t ∷ (t + 1) ∷ [])
+immediateRule Ldrd back n t = pairRule t && not (eqb n 15) && backRule back n (pair t)
+immediateRule Strd back n t = pairRule t && backRule back n (pair t)
 
 -- An offset register, which is never 15. LDRD doesn't load over it.
 abbrev pub registerRule : Transfer → Bool → ℕ → ℕ → ℕ → Bool
@@ -52,8 +56,8 @@ registerRule Ldrh back n t m = not (eqb t 15) && not (eqb m 15) && backRule back
 registerRule Strh back n t m = not (eqb t 15) && not (eqb m 15) && backRule back n (t ∷ [])
 registerRule Ldrsb back n t m = not (eqb t 15) && not (eqb m 15) && backRule back n (t ∷ [])
 registerRule Ldrsh back n t m = not (eqb t 15) && not (eqb m 15) && backRule back n (t ∷ [])
-registerRule Ldrd back n t m = not (among (t ∷ (t + 1) ∷ []) m) && pairRule t && not (eqb m 15) && backRule back n (t ∷ (t + 1) ∷ [])
-registerRule Strd back n t m = pairRule t && not (eqb m 15) && backRule back n (t ∷ (t + 1) ∷ [])
+registerRule Ldrd back n t m = not (among (pair t) m) && pairRule t && not (eqb m 15) && backRule back n (pair t)
+registerRule Strd back n t m = pairRule t && not (eqb m 15) && backRule back n (pair t)
 
 -- A literal. There is none of a store.
 abbrev pub literalRule : Transfer → ℕ → Bool

@@ -21,8 +21,10 @@ pub enum Encoded {
 pub fn decode(word: u32) -> Decoded
     ensures { λ d. ⌜ Decoding word d ⌝ }
 {
-    let f = fields_at(word as u64);
-    if joined(f) == word as u64 && legal(f) {
+    let bits = word as u64;
+    let f = fields_at(bits);
+    let again = joined(f);
+    if again == bits && legal(f) {
         Decoded::Taken(f)
     } else {
         Decoded::Refused

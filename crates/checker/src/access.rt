@@ -7,18 +7,13 @@ use a32::Answer;
 use a32::Described;
 use a32_access::Access;
 use a32_access::Change;
+use std::num::wrapping_sub_u64;
 
-// Whether the change is subtracted, and its size.
-fn put_change(out: &mut [u8], at: usize, change: Change) -> usize {
+// A signed change modulo 2^64.
+fn signed(change: Change) -> u64 {
     match change {
-        Change::Plus(size) => {
-            let numbers = [0, size as u64];
-            out::numbers(out, at, &numbers)
-        }
-        Change::Minus(size) => {
-            let numbers = [1, size as u64];
-            out::numbers(out, at, &numbers)
-        }
+        Change::Plus(size) => size as u64,
+        Change::Minus(size) => wrapping_sub_u64(0, size as u64),
     }
 }
 
@@ -26,12 +21,11 @@ fn put_change(out: &mut [u8], at: usize, change: Change) -> usize {
 fn put_access(out: &mut [u8], at: usize, a: Access, registers: [u32; 16]) -> usize {
     let f = a.fields;
     let change = a.change;
-    let numbers = [a.count as u64, a.address as u64];
+    let numbers = [a.count as u64, a.address as u64, signed(change)];
     let taken = out::first(out, at, 0);
     let fields = fields::put(out, taken, f);
     let place = out::numbers(out, fields, &numbers);
-    let end = put_change(out, place, change);
-    out::words(out, end, &registers)
+    out::words(out, place, &registers)
 }
 
 fn shown(out: &mut [u8], at: usize, done: Described) -> usize {
@@ -39,8 +33,7 @@ fn shown(out: &mut [u8], at: usize, done: Described) -> usize {
     let registers = done.registers;
     match answer {
         Answer::Taken(a) => put_access(out, at, a, registers),
-        Answer::UnsoundStatus => out::bare_refusal(out, at, 9),
-        Answer::NoForm => out::bare_refusal(out, at, 19),
+        refusal => out::bare_refusal(out, at, a32::number(refusal) as u64),
     }
 }
 

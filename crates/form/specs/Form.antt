@@ -1,5 +1,5 @@
 -- A form: its records, the word of each, which of n editions have it, the record at a word's bits, and the tests that are reading's and writing's own.
--- Reading is free of editions: a word has one record, whatever the edition.
+-- The record at a word's bits is free of editions: a word has one, whatever the edition.
 use Prim.Native.Nat.{ℕ}
 use mathlib.Core.Bool.{Bool, cond, _&&_}
 use mathlib.Core.List.{List}
@@ -23,7 +23,7 @@ abbrev pub writeAs : {R : Type 0} → ℕ → (R → ℕ) → (ℕ → R → Boo
 writeAs n word has own e r = callOf n (λ x. has x r) (own r) e (word r)
 
 -- DEMAND 3: what the reader's edition makes of a word that some edition put out for a record: that very record exactly when it has the record, and
--- otherwise refusal 6 with the editions that have it, and their number
+-- otherwise refusal 6 with the editions that have it, and their number; a reader's edition that there is none of is refused 1
 abbrev pub readBack : {R : Type 0} → ℕ → (ℕ → R → Bool) → ℕ → R → Answer R
 readBack n has reader r =
     cond (ltb reader n) (cond (has reader r) (given r) (refused (others n (λ x. has x r)))) (refused UnknownEdition)

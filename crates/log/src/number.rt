@@ -12,7 +12,7 @@ fn joined(first: u8, second: u8, third: u8, last: u8) -> u64
 }
 
 // The number in the four bytes from a place on.
-pub fn four(bytes: &[u8], at: usize) -> u64
+pub(crate) fn four(bytes: &[u8], at: usize) -> u64
     requires { ⌜ at + 4 ≤ length (now bytes) ⌝ }
     ensures { λ n. ⌜ (n ≡ number (take 4 (drop at (now (bytes .entry))))) × (n < 2 ^ 32) ⌝ }
 {
@@ -20,7 +20,7 @@ pub fn four(bytes: &[u8], at: usize) -> u64
 }
 
 // The number in the eight bytes from a place on.
-pub fn eight(bytes: &[u8], at: usize) -> u64
+pub(crate) fn eight(bytes: &[u8], at: usize) -> u64
     requires { ⌜ at + 8 ≤ length (now bytes) ⌝ }
     ensures { λ n. ⌜ n ≡ number (take 8 (drop at (now (bytes .entry)))) ⌝ }
 {

@@ -31,7 +31,7 @@ fn eight(out: &mut [u8], at: usize, n: u64) -> usize
 }
 
 // A section of bytes: editions or injections.
-pub fn bytes(out: &mut [u8], at: usize, entries: &[u8]) -> usize
+pub(crate) fn bytes(out: &mut [u8], at: usize, entries: &[u8]) -> usize
     requires { ⌜ at + 4 + length (now entries) ≤ length (now out) ⌝ }
     ensures { λ end. ⌜ (end ≡ at + 4 + length (now (entries .entry))) × (now (out .exit) ≡ sets (now (out .entry)) at (sectionBytes byte (now (entries .entry)))) ⌝ }
 {
@@ -46,7 +46,7 @@ pub fn bytes(out: &mut [u8], at: usize, entries: &[u8]) -> usize
 }
 
 // A section of words: syndromes.
-pub fn words(out: &mut [u8], at: usize, entries: &[u64]) -> usize
+pub(crate) fn words(out: &mut [u8], at: usize, entries: &[u64]) -> usize
     requires { ⌜ at + 4 + length (now entries) * 8 ≤ length (now out) ⌝ }
     ensures { λ end. ⌜ (end ≡ at + 4 + length (now (entries .entry)) * 8) × (now (out .exit) ≡ sets (now (out .entry)) at (sectionBytes word (now (entries .entry)))) ⌝ }
 {
@@ -60,7 +60,7 @@ pub fn words(out: &mut [u8], at: usize, entries: &[u64]) -> usize
 }
 
 // A section of pairs, FAR and then HPFAR: addresses.
-pub fn pairs(out: &mut [u8], at: usize, fars: &[u64], hpfars: &[u64]) -> usize
+pub(crate) fn pairs(out: &mut [u8], at: usize, fars: &[u64], hpfars: &[u64]) -> usize
     requires { ⌜ (length (now fars) ≡ length (now hpfars)) × (at + 4 + length (now fars) * 16 ≤ length (now out)) ⌝ }
     ensures { λ end. ⌜ (end ≡ at + 4 + length (now (fars .entry)) * 16) × (now (out .exit) ≡ sets (now (out .entry)) at (sectionBytes pair (paired (now (fars .entry)) (now (hpfars .entry))))) ⌝ }
 {

@@ -105,7 +105,7 @@ dataAbortAt w =
       code = fieldOf w 5 0;
     }
 
--- a class with no layout reads as one without fields, which its kind lacks (`ownClass`)
+-- a class with no layout reads as one without fields, which its kind lacks (`headOf r .own` is false)
 unfoldable pub recordOf : ℕ → ℕ → Record
 recordOf class w =
     cond (eqb class 0x01) (Record.Wfx (wfxAt w))

@@ -1,4 +1,4 @@
-// What the address registers tell of a record.
+// What a record tells of the address registers.
 ghost use mathlib.Core.Path.{_≡_};
 ghost use Rattle.record.specs.Addresses.{addressesOf};
 use super::kinds::Addresses;

@@ -6,8 +6,8 @@ use Rattle.a32_access.specs.Place.{addressOf, changeOf}
 use Rattle.a32_access.proofs.access.access_in.Statement.{statement}
 use Rattle.a32_access.proofs.access.access_in.Tie as tie
 
-size-of-requires : tie.Need-size-of-requires
-size-of-requires c κs = search needs
+offset-of-requires : tie.Need-offset-of-requires
+offset-of-requires c κs = search needs
 
 change-of-requires : tie.Need-change-of-requires
 change-of-requires c κs = search needs
@@ -25,7 +25,7 @@ returns : tie.Need-returns
 returns c =
     let start = c .before .before .before .before .before in
     let f = start .args .f in
-    let size = c .before .before .before .before .size-of .ensures in
+    let size = c .before .before .before .before .offset-of .ensures in
     λ i. record {
       fields = f;
       count = c .before .before .count-of .ensures i;
@@ -37,7 +37,7 @@ pub access-in-spec : {M : Type 1} → statement M
 access-in-spec =
     tie.close
     (tie.spec
-    size-of-requires
+    offset-of-requires
     change-of-requires
     count-of-requires
     base-of-requires

@@ -4,34 +4,34 @@ use borrow.Author.Needs.{needs}
 use mathlib.Core.Path.{_≡_, _∙_, sym, ap}
 use mathlib.Core.Bool.{Bool, cond}
 use mathlib.Core.List.{List}
-use Prim.Native.Nat.{ℕ, _+_, _%_, _^_}
+use Prim.Native.Nat.{ℕ}
 use native.Mathlib.Omega.{arith}
 use lib.ListN.{List·getD-eq-default}
 use borrow.Author.Tests.{eq-eqb, ne-eqb}
 use Rattle.status.specs.declared.Held.{Held}
 use Rattle.status.specs.Register.{heldIn}
-use Rattle.a32_access.specs.Value.{heldValue, valueOf}
+use Rattle.a32_access.specs.Value.{programCounter, heldValue, valueOf}
 use Rattle.a32_access.proofs.value.value_of.Statement.{statement}
 use Rattle.a32_access.proofs.value.value_of.Tie as tie
 
 module _ (regs : List ℕ) (pc mode n : ℕ) where
-  as-pc : {r : ℕ} → n ≡ 15 → r ≡ (pc + 8) % 2 ^ 32 → r ≡ valueOf regs pc mode n
+  as-pc : {r : ℕ} → n ≡ 15 → r ≡ programCounter pc → r ≡ valueOf regs pc mode n
   unfolding valueOf
-  as-pc same sum = sum ∙ sym (ap (λ (b : Bool). cond b ((pc + 8) % 2 ^ 32) (heldValue regs (heldIn mode n))) (eq-eqb n 15 same))
+  as-pc same sum = sum ∙ sym (ap (λ (b : Bool). cond b (programCounter pc) (heldValue regs (heldIn mode n))) (eq-eqb n 15 same))
 
   as-held : {came held : Held} → (n ≡ 15 → ⊥) → came ≡ heldIn mode n → came ≡ held → heldValue regs held ≡ valueOf regs pc mode n
   unfolding valueOf
   as-held other told same =
       ap (heldValue regs) (sym same ∙ told)
-      ∙ sym (ap (λ (b : Bool). cond b ((pc + 8) % 2 ^ 32) (heldValue regs (heldIn mode n))) (ne-eqb n 15 other))
+      ∙ sym (ap (λ (b : Bool). cond b (programCounter pc) (heldValue regs (heldIn mode n))) (ne-eqb n 15 other))
 
-wrapping-add-u32-requires : tie.Need-wrapping-add-u32-requires
-wrapping-add-u32-requires c κs = search needs
+program-counter-requires : tie.Need-program-counter-requires
+program-counter-requires c κs = search needs
 
 returns : tie.Need-returns
 returns c =
     let a = c .before .before .args in
-    as-pc (a .t1) (a .pc) (a .mode) (a .number) (c .before .if1 .taken) (c .wrapping-add-u32 .ensures)
+    as-pc (a .t1) (a .pc) (a .mode) (a .number) (c .before .if1 .taken) (c .program-counter .ensures)
 
 held-in-requires : tie.Need-held-in-requires
 held-in-requires c κs = search needs
@@ -73,7 +73,7 @@ pub value-of-spec : {M : Type 1} → statement M
 value-of-spec =
     tie.close
     (tie.spec
-    wrapping-add-u32-requires
+    program-counter-requires
     returns
     held-in-requires
     enum-known-n

@@ -1,4 +1,5 @@
--- Describing an instruction (02, C-18): 9 for an unsound state, then 19 in T32 state, then 19 for a word that is none of these forms.
+-- Describing an instruction (02, C-18): 9 for an unsound state, then 19 in T32 state, then 19 for a word that is none of these forms or whose decoding
+-- is UNPREDICTABLE.
 use Prim.Native.Nat.{ℕ}
 use mathlib.Core.Path.{_≡_}
 use mathlib.Core.Bool.{not}
@@ -15,7 +16,7 @@ use Rattle.a32_access.specs.Transferred.{registersOf, padded}
 use Rattle.a32_access.specs.Access.{accessIn}
 use Rattle.a32_access.specs.declared.access.Access.{Access}
 use Rattle.a32.specs.declared.instruction.Answer.{Answer}
-use Rattle.a32.specs.declared.instruction.Answer.the-variants.{Taken, UnsoundStatus, NoForm}
+use Rattle.a32.specs.declared.instruction.Answer.the-variants.{Taken, UnsoundStatus, T32State, NoForm}
 use Rattle.a32.specs.declared.instruction.Described.{Described}
 
 -- what a load or store does in a state, whose mode is M, bits 4:0 of the status word
@@ -25,7 +26,15 @@ accessOf s f = accessIn (s .regs) (s .pc) (fieldOf (s .status) 4 0) f
 abbrev pub answerNumber : Answer → ℕ
 answerNumber (Taken a) = 0
 answerNumber UnsoundStatus = 9
+answerNumber T32State = 19
 answerNumber NoForm = 19
+
+-- no refusal but 6 carries a mask or a count
+abbrev pub answerMask : Answer → ℕ
+answerMask a = 0
+
+abbrev pub answerCount : Answer → ℕ
+answerCount a = 0
 
 -- the tests in their order, each with its number; 0 comes where none fails
 abbrev pub describeNumbers : Guest → ℕ → List (Test ℕ)
@@ -34,7 +43,7 @@ describeNumbers s w = needs (sound (s .marks) (s .status)) 9 ∷ needs (not (t32
 -- the same tests, each with its answer
 abbrev pub describeTests : Guest → ℕ → List (Test Answer)
 describeTests s w =
-    needs (sound (s .marks) (s .status)) UnsoundStatus ∷ needs (not (t32 (s .status))) NoForm ∷ needs (isForm w) NoForm ∷ []
+    needs (sound (s .marks) (s .status)) UnsoundStatus ∷ needs (not (t32 (s .status))) T32State ∷ needs (isForm w) NoForm ∷ []
 
 -- where none fails, the word's own fields are legal and make it (a32_rule, `decode-exactly`)
 unfoldable pub describedAnswer : Guest → ℕ → Answer
@@ -44,10 +53,13 @@ describedAnswer s w = decide (describeTests s w) (Taken (accessOf s (fieldsAt w)
 abbrev pub registersIn : Answer → List ℕ
 registersIn (Taken a) = padded 16 (registersOf (a .fields))
 registersIn UnsoundStatus = padded 16 []
+registersIn T32State = padded 16 []
 registersIn NoForm = padded 16 []
 
--- THE PROMISE: the answer, its number, and the registers
+-- THE PROMISE: the answer with its number, mask and count, and the registers
 pub record Describing (s : Guest) (w : ℕ) (r : Described) : Type 0 where
   pub answer : r .answer ≡ describedAnswer s w
   pub number : answerNumber (r .answer) ≡ decide (describeNumbers s w) 0
+  pub mask : answerMask (r .answer) ≡ 0
+  pub count : answerCount (r .answer) ≡ 0
   pub registers : r .registers ≡ registersIn (r .answer)
