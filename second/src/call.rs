@@ -8,10 +8,10 @@ use crate::form::{Form, Record};
 use crate::guest::{inject, Fault, Injection, State};
 use crate::long::LONG;
 use crate::short::SHORT;
-use crate::status::{from_spsr, Marks};
+use crate::status::{from_spsr, Marks, MODES};
 use crate::syndrome::{read, word_to_look_up, write, Refusal};
 use crate::trap::{read_both, read_trap, Intermediate, Registers, Trap};
-use crate::widen::{widen, widened};
+use crate::widen::{mapped, widen, widened};
 
 /// A question to one of the calls.
 #[derive(Clone, Debug)]
@@ -29,6 +29,11 @@ pub enum Call {
         reader: u32,
         record: Record,
     },
+    /// Read and written again in one edition.
+    Again {
+        edition: u32,
+        word: u64,
+    },
     Trap {
         edition: u32,
         registers: Registers,
@@ -45,9 +50,22 @@ pub enum Call {
         edition: u32,
         record: Record,
     },
+    ShortCarry {
+        writer: u32,
+        reader: u32,
+        record: Record,
+    },
+    ShortAgain {
+        edition: u32,
+        word: u32,
+    },
     Widen {
         mode: u32,
         record: Record,
+    },
+    Held {
+        mode: u32,
+        register: u32,
     },
     /// By value or on a state that is lent: the answers are the same.
     Inject {
@@ -100,6 +118,7 @@ impl Call {
                 reader: narrow(*reader)?,
                 record: Record::from_row(&LONG, record)?,
             }),
+            (b"again", &[edition, word]) => Some(Call::Again { edition: narrow(edition)?, word }),
             (b"trap", &[edition, esr, far, hpfar]) => {
                 let registers = Registers { esr, far, hpfar };
                 Some(Call::Trap { edition: narrow(edition)?, registers })
@@ -114,6 +133,17 @@ impl Call {
             (b"hwrite", [edition, record @ ..]) => {
                 let record = Record::from_row(&SHORT, record)?;
                 Some(Call::ShortWrite { edition: narrow(*edition)?, record })
+            }
+            (b"hcarry", [writer, reader, record @ ..]) => Some(Call::ShortCarry {
+                writer: narrow(*writer)?,
+                reader: narrow(*reader)?,
+                record: Record::from_row(&SHORT, record)?,
+            }),
+            (b"hagain", &[edition, word]) => {
+                Some(Call::ShortAgain { edition: narrow(edition)?, word: narrow(word)? })
+            }
+            (b"held", &[mode, register]) => {
+                Some(Call::Held { mode: narrow(mode)?, register: narrow(register)? })
             }
             (b"widen", [mode, record @ ..]) => {
                 let record = Record::from_row(&SHORT, record)?;
@@ -155,6 +185,7 @@ impl Call {
             Call::Carry { writer, reader, record } => {
                 ("carry", [row![*writer, *reader], record.row()].concat())
             }
+            Call::Again { edition, word } => ("again", row![*edition, *word]),
             Call::Trap { edition, registers } => {
                 ("trap", [row![*edition], registers_row(registers)].concat())
             }
@@ -165,6 +196,11 @@ impl Call {
             Call::ShortWrite { edition, record } => {
                 ("hwrite", [row![*edition], record.row()].concat())
             }
+            Call::ShortCarry { writer, reader, record } => {
+                ("hcarry", [row![*writer, *reader], record.row()].concat())
+            }
+            Call::ShortAgain { edition, word } => ("hagain", row![*edition, *word]),
+            Call::Held { mode, register } => ("held", row![*mode, *register]),
             Call::Widen { mode, record } => ("widen", [row![*mode], record.row()].concat()),
             Call::Inject { lent, injection, state } => {
                 let name = if *lent { "lent" } else { "inject" };
@@ -187,7 +223,9 @@ impl Call {
     /// Notes the words that the answer looks up.
     fn look_up(&self, words: &mut Words) {
         match self {
-            Call::Read { edition, word } => words.long.extend(looked_up(&LONG, *edition, *word)),
+            Call::Read { edition, word } | Call::Again { edition, word } => {
+                words.long.extend(looked_up(&LONG, *edition, *word));
+            }
             Call::Write { record, .. }
             | Call::Carry { record, .. }
             | Call::Finish { record, .. } => {
@@ -199,16 +237,19 @@ impl Call {
             // A word that is refused before its record is looked up is so in
             // every edition that there is.
             Call::Both { registers, .. } => words.long.extend(looked_up(&LONG, 0, registers.esr)),
-            Call::ShortRead { edition, word } => {
+            Call::ShortRead { edition, word } | Call::ShortAgain { edition, word } => {
                 words.short.extend(looked_up(&SHORT, *edition, u64::from(*word)));
             }
-            Call::ShortWrite { record, .. } => words.short.extend(record.word()),
+            Call::ShortWrite { record, .. } | Call::ShortCarry { record, .. } => {
+                words.short.extend(record.word());
+            }
             Call::Widen { mode, record } => {
                 words.short.extend(record.word());
                 words.long.extend(widened(*mode, record).and_then(|wide| wide.word()));
             }
             Call::Inject { .. }
             | Call::Spsr { .. }
+            | Call::Held { .. }
             | Call::Decode { .. }
             | Call::Encode { .. }
             | Call::Describe { .. } => {}
@@ -229,6 +270,10 @@ impl Call {
                     answered(read(catalogue, *reader, word.into()).map(|record| record.row()))
                 }))
             }
+            Call::Again { edition, word } => {
+                // What is taken is the word itself again.
+                answered(read(catalogue, *edition, *word).map(|_| row![*word]))
+            }
             Call::Trap { edition, registers } => {
                 answered(read_trap(catalogue, *edition, *registers).map(|trap| trap_row(&trap)))
             }
@@ -242,6 +287,21 @@ impl Call {
             }
             Call::ShortWrite { edition, record } => {
                 answered(write(short, *edition, record).map(|word| row![word]))
+            }
+            Call::ShortCarry { writer, reader, record } => {
+                answered(write(short, *writer, record).map(|word| {
+                    answered(read(short, *reader, word.into()).map(|record| record.row()))
+                }))
+            }
+            Call::ShortAgain { edition, word } => {
+                answered(read(short, *edition, u64::from(*word)).map(|_| row![*word]))
+            }
+            Call::Held { mode, register } => {
+                let accepted = MODES.iter().any(|&accepted| u32::from(accepted) == *mode);
+                match mapped(*mode, *register).filter(|_| accepted) {
+                    Some(number) => row![1u8, number],
+                    None => row![0u8],
+                }
             }
             Call::Widen { mode, record } => {
                 answered(widen(short, catalogue, *mode, record).map(|record| record.row()))

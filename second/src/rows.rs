@@ -12,7 +12,7 @@ mod short;
 mod trap;
 mod write;
 
-use crate::call::answers;
+use crate::call::{answers, Call};
 use crate::cases;
 use crate::log;
 use std::fs;
@@ -37,10 +37,42 @@ fn questions() -> Vec<u8> {
         .chain(finish::questions())
         .chain(short::questions())
         .chain(a32::questions());
-    let lines = calls.map(|call| call.line() + "\n");
+    let calls: Vec<Call> = calls.collect();
+    let derived = derived(&calls);
+    let lines = calls.iter().chain(&derived).map(|call| call.line() + "\n");
     let mut bytes = lines.collect::<String>().into_bytes();
     bytes.extend(malformed::lines());
     bytes
+}
+
+/// Questions to the calls that join two others, from those to the others: a tenth of
+/// the words that are read, a fifth of the short records that are written; and each
+/// register of each number of a mode.
+fn derived(calls: &[Call]) -> Vec<Call> {
+    let mut derived = Vec::new();
+    for (number, call) in calls.iter().enumerate() {
+        match call {
+            Call::Read { edition, word } if number % 10 == 0 => {
+                derived.push(Call::Again { edition: *edition, word: *word });
+            }
+            Call::ShortRead { edition, word } if number % 10 == 0 => {
+                derived.push(Call::ShortAgain { edition: *edition, word: *word });
+            }
+            Call::ShortWrite { edition, record } if number % 5 == 0 => {
+                for reader in 0..3 {
+                    let record = record.clone();
+                    derived.push(Call::ShortCarry { writer: *edition, reader, record });
+                }
+            }
+            _ => {}
+        }
+    }
+    for mode in (0..33).chain([0x30, 0x110, u32::MAX]) {
+        for register in (0..17).chain([0x1_000e, u32::MAX]) {
+            derived.push(Call::Held { mode, register });
+        }
+    }
+    derived
 }
 
 /// Both files, or the cases of the paper that this program answers otherwise.
@@ -156,6 +188,10 @@ mod tests {
             ("spsr", 1000, "0 9"),
             ("finish", 500, "0 5 9 12"),
             ("finlent", 100, "0 5 9 12"),
+            ("again", 500, "0 1 2 3 4 5 6"),
+            ("hagain", 300, "0 1 3 4 5 6"),
+            ("hcarry", 1000, "0 1 4 5 6"),
+            ("held", 500, "0 1"),
             ("decode", 1000, "0 13"),
             ("encode", 1000, "0 13"),
             ("access", 500, "0 9 13"),

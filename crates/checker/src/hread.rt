@@ -5,7 +5,7 @@ use super::row;
 use short::Read;
 use short_record::Hsr;
 
-fn shown(out: &mut [u8], at: usize, answer: Read) -> usize {
+pub fn shown(out: &mut [u8], at: usize, answer: Read) -> usize {
     match answer {
         Read::Taken(r) => {
             let taken = out::first(out, at, 0);

@@ -6,7 +6,7 @@ use super::out::wide;
 use super::row;
 use short::Written;
 
-fn shown(out: &mut [u8], at: usize, answer: Written) -> usize {
+pub fn shown(out: &mut [u8], at: usize, answer: Written) -> usize {
     match answer {
         Written::Word(hsr) => {
             let taken = out::first(out, at, 0);

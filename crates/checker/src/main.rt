@@ -3,6 +3,7 @@
 //
 // Rows and their answers are described in second/README.md. Lines of any length take no more memory than the longest row.
 mod access;
+mod again;
 mod both;
 mod carry;
 mod decode;
@@ -11,6 +12,9 @@ mod fields;
 mod finish;
 mod finlent;
 mod given;
+mod hagain;
+mod hcarry;
+mod held;
 mod hgiven;
 mod hread;
 mod hwrite;
@@ -50,6 +54,9 @@ fn call(word: u64, row: &[u64], out: &mut [u8], at: usize) -> usize {
     if word == spelled(b"both") {
         return both::answer(row, out, at);
     }
+    if word == spelled(b"again") {
+        return again::answer(row, out, at);
+    }
     short_call(word, row, out, at)
 }
 
@@ -63,6 +70,12 @@ fn short_call(word: u64, row: &[u64], out: &mut [u8], at: usize) -> usize {
     }
     if word == spelled(b"widen") {
         return widened::answer(row, out, at);
+    }
+    if word == spelled(b"hcarry") {
+        return hcarry::answer(row, out, at);
+    }
+    if word == spelled(b"hagain") {
+        return hagain::answer(row, out, at);
     }
     state_call(word, row, out, at)
 }
@@ -83,6 +96,9 @@ fn state_call(word: u64, row: &[u64], out: &mut [u8], at: usize) -> usize {
     }
     if word == spelled(b"finlent") {
         return finlent::answer(row, out, at);
+    }
+    if word == spelled(b"held") {
+        return held::answer(row, out, at);
     }
     instruction_call(word, row, out, at)
 }

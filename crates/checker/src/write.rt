@@ -5,7 +5,7 @@ use super::out;
 use super::row;
 use syndrome::Written;
 
-fn shown(out: &mut [u8], at: usize, answer: Written) -> usize {
+pub fn shown(out: &mut [u8], at: usize, answer: Written) -> usize {
     match answer {
         Written::Word(esr) => {
             let taken = out::first(out, at, 0);
