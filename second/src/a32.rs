@@ -44,11 +44,16 @@ impl Row {
         places.fold(None, |n, (at, _)| Some(n.unwrap_or(0) << 1 | word >> (31 - at) & 1))
     }
 
+    /// The bits of a field.
+    fn width(self, letter: char) -> usize {
+        self.0.chars().filter(|&c| c == letter).count()
+    }
+
     /// The pattern in which some fields have these values.
     fn with(self, values: &[(char, u32)]) -> Pattern {
         let mut pattern = Pattern { mask: 0, value: 0 };
         for &(letter, value) in values {
-            let width = self.0.chars().filter(|c| *c == letter).count();
+            let width = self.width(letter);
             let places = self.0.chars().enumerate().filter(|(_, c)| *c == letter);
             for (index, (at, _)) in places.enumerate() {
                 let bit = value >> (width - 1 - index) & 1;
@@ -168,7 +173,7 @@ impl Form {
 
     /// The bits of a field; a literal's base and addressing have none.
     pub fn width(&self, letter: char) -> usize {
-        self.row.0.chars().filter(|&c| c == letter).count()
+        self.row.width(letter)
     }
 
     /// The word with these fields, whether or not it is taken. Each is cut to its

@@ -8,7 +8,7 @@ use crate::form::{Form, Record};
 use crate::guest::{inject, Fault, Injection, State};
 use crate::long::LONG;
 use crate::short::SHORT;
-use crate::status::{from_spsr, Marks, MODES};
+use crate::status::{from_spsr, is_mode, Marks};
 use crate::syndrome::{read, word_to_look_up, write, Refusal};
 use crate::trap::{read_both, read_trap, Intermediate, Registers, Trap};
 use crate::widen::{mapped, widen, widened};
@@ -265,15 +265,8 @@ impl Call {
             Call::Write { edition, record } => {
                 answered(write(catalogue, *edition, record).map(|word| row![word]))
             }
-            Call::Carry { writer, reader, record } => {
-                answered(write(catalogue, *writer, record).map(|word| {
-                    answered(read(catalogue, *reader, word.into()).map(|record| record.row()))
-                }))
-            }
-            Call::Again { edition, word } => {
-                // What is taken is the word itself again.
-                answered(read(catalogue, *edition, *word).map(|_| row![*word]))
-            }
+            Call::Carry { writer, reader, record } => carried(catalogue, *writer, *reader, record),
+            Call::Again { edition, word } => again(catalogue, *edition, *word),
             Call::Trap { edition, registers } => {
                 answered(read_trap(catalogue, *edition, *registers).map(|trap| trap_row(&trap)))
             }
@@ -288,17 +281,10 @@ impl Call {
             Call::ShortWrite { edition, record } => {
                 answered(write(short, *edition, record).map(|word| row![word]))
             }
-            Call::ShortCarry { writer, reader, record } => {
-                answered(write(short, *writer, record).map(|word| {
-                    answered(read(short, *reader, word.into()).map(|record| record.row()))
-                }))
-            }
-            Call::ShortAgain { edition, word } => {
-                answered(read(short, *edition, u64::from(*word)).map(|_| row![*word]))
-            }
+            Call::ShortCarry { writer, reader, record } => carried(short, *writer, *reader, record),
+            Call::ShortAgain { edition, word } => again(short, *edition, (*word).into()),
             Call::Held { mode, register } => {
-                let accepted = MODES.iter().any(|&accepted| u32::from(accepted) == *mode);
-                match mapped(*mode, *register).filter(|_| accepted) {
+                match mapped(*mode, *register).filter(|_| is_mode(*mode)) {
                     Some(number) => row![1u8, number],
                     None => row![0u8],
                 }
@@ -412,6 +398,19 @@ fn answered(answer: Result<Vec<u64>, Refusal>) -> Vec<u64> {
         Ok(row) => [row![0u8], row].concat(),
         Err(refusal) => row![refusal.number, refusal.editions.0, refusal.editions.count()],
     }
+}
+
+/// The writer's refusal, or 0 and what the reader answers.
+fn carried(catalogue: &Catalogue, writer: u32, reader: u32, record: &Record) -> Vec<u64> {
+    answered(
+        write(catalogue, writer, record)
+            .map(|word| answered(read(catalogue, reader, word.into()).map(|record| record.row()))),
+    )
+}
+
+/// A word that is taken comes back as itself.
+fn again(catalogue: &Catalogue, edition: u32, word: u64) -> Vec<u64> {
+    answered(read(catalogue, edition, word).map(|_| row![word]))
 }
 
 /// The fields, the number of registers, the first address, the change of the base

@@ -11,7 +11,7 @@ use std::ops::RangeInclusive;
 use std::thread;
 use std::time::Instant;
 
-const THREADS: u32 = 2;
+pub const THREADS: u32 = 2;
 
 /// Compares every `stride`-th word of each form; true when there was no
 /// difference.

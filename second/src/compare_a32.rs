@@ -1,15 +1,15 @@
 //! The proved decoder of A32 loads and stores against the patterns, on all words.
 
 use crate::a32::{find, forms, Form};
+use crate::compare::THREADS;
 use crate::proved::{a32_form, a32_rewrite, REFUSED};
 use std::thread;
 use std::time::Instant;
 
-const THREADS: u32 = 2;
-
-/// Words taken by each form, and the words that the proved code answers otherwise.
+/// Words taken by the code of each form, and the words that the proved code answers
+/// otherwise.
 struct Tally {
-    taken: Vec<u64>,
+    taken: [u64; 64],
     different: Vec<u32>,
 }
 
@@ -31,8 +31,8 @@ pub fn compare(stride: usize) -> bool {
     });
     let mut counts_agree = true;
     println!("\nA32 words taken by form:");
-    for (index, form) in forms.iter().enumerate() {
-        let taken: u64 = tallies.iter().map(|tally| tally.taken[index]).sum();
+    for form in &forms {
+        let taken: u64 = tallies.iter().map(|tally| tally.taken[form.code() as usize]).sum();
         let all = form.words();
         println!("{:<18} {taken:>11} of {all:>11}", form.name);
         counts_agree &= stride != 1 || taken == all;
@@ -45,13 +45,12 @@ pub fn compare(stride: usize) -> bool {
 }
 
 fn compare_words(forms: &[Form], words: impl Iterator<Item = u32>) -> Tally {
-    let mut tally = Tally { taken: vec![0; forms.len()], different: Vec::new() };
+    let mut tally = Tally { taken: [0; 64], different: Vec::new() };
     for word in words {
         let form = find(forms, word);
         let expected = form.map_or((REFUSED, REFUSED), |form| (form.code(), word.into()));
         if let Some(form) = form {
-            let index = forms.iter().position(|other| other.code() == form.code());
-            tally.taken[index.expect("one of the forms")] += 1;
+            tally.taken[form.code() as usize] += 1;
         }
         if (a32_form(word), a32_rewrite(word)) != expected {
             tally.different.push(word);

@@ -46,6 +46,11 @@ impl Marks {
 /// Undefined and System.
 pub const MODES: [u8; 7] = [0x10, 0x11, 0x12, 0x13, 0x17, 0x1b, 0x1f];
 
+/// Whether a number is a mode of a guest.
+pub fn is_mode(number: u32) -> bool {
+    MODES.iter().any(|&mode| u32::from(mode) == number)
+}
+
 impl Status {
     pub fn unpack(word: u32) -> Status {
         let mut bits = Unpacker { word, left: 32 };

@@ -4,7 +4,7 @@
 use crate::catalogue::Catalogue;
 use crate::form::Record;
 use crate::long::LONG;
-use crate::status::MODES;
+use crate::status::is_mode;
 use crate::syndrome::Refusal;
 
 /// The AArch64 numbers of registers 8 to 14 in the modes that have their own,
@@ -54,7 +54,7 @@ pub fn widen(
     mode: u32,
     record: &Record,
 ) -> Result<Record, Refusal> {
-    if !MODES.iter().any(|&accepted| u32::from(accepted) == mode) {
+    if !is_mode(mode) {
         return Err(Refusal::plain(9));
     }
     let had = Some(record).filter(|record| short.has(record));
@@ -65,6 +65,7 @@ pub fn widen(
 #[cfg(test)]
 mod tests {
     use super::*;
+    use crate::status::MODES;
 
     /// The link registers of document 01's table of injections, and the rest
     /// of the manual's table read by its AArch64 number.

@@ -45,13 +45,13 @@ module _ (x : Transfer) (t : ℕ) (fits : ltb t 16 ≡ true) where
       let even = eqb-true (t % 2) 0 (and-left (eqb (t % 2) 0) (not (eqb t 14)) h) in
       lt-ltb ((t + 1) % 2 ^ 32) 16 (omega arith)
 
-  pub transferred-below : targetRule x t ≡ true → allBelow 16 (transferredFrom x t) ≡ true
-  transferred-below h = by (dual x) refl h
+  transferred-below : targetRule x t ≡ true → allBelow 16 (transferredFrom x t) ≡ true
+  transferred-below = by (dual x)
     where
-      by : (b : Bool) → dual x ≡ b → cond b (pairRule t) (cond (narrow x) (not (eqb t 15)) true) ≡ true
+      by : (b : Bool) → cond b (pairRule t) (cond (narrow x) (not (eqb t 15)) true) ≡ true
           → allBelow 16 (cond b (t ∷ (t + 1) % 2 ^ 32 ∷ []) (t ∷ [])) ≡ true
-      by true d h = both-hold fits (both-hold (second-below h) refl)
-      by false d h = both-hold fits refl
+      by true h = both-hold fits (both-hold (second-below h) refl)
+      by false h = both-hold fits refl
 
 -- THE REGISTERS of legal fields are numbers of 0 to 15
 pub registers-below : (f : Fields) → legal f ≡ true → allBelow 16 (registersOf f) ≡ true
