@@ -42,18 +42,23 @@ fn with(form: &Form, values: &[(char, u32)]) -> Vec<(char, u32)> {
     fields
 }
 
+/// The word of the sample with other values of some fields.
+fn word_with(form: &Form, values: &[(char, u32)]) -> u32 {
+    form.pattern(&with(form, values))
+}
+
 /// Each bit of each form's sample turned over; each form's bases, registers, offset
 /// registers and lists with every addressing; conditions; random words of the groups.
 fn words() -> Vec<u32> {
     let mut words = Vec::new();
     for form in forms() {
-        let word = form.pattern(&sample(&form));
+        let word = word_with(&form, &[]);
         words.push(word);
         words.extend((0..32).map(|bit| word ^ 1 << bit));
-        words.extend(tied_fields(&form).iter().map(|values| form.pattern(&with(&form, values))));
+        words.extend(tied_fields(&form).iter().map(|values| word_with(&form, values)));
     }
     let ldr = forms().remove(0);
-    words.extend((0..16).map(|cond| ldr.pattern(&with(&ldr, &[('c', cond)]))));
+    words.extend((0..16).map(|cond| word_with(&ldr, &[('c', cond)])));
     let mut random = Random::seeded(18);
     for group in [0x0000_0090, 0x0400_0000, 0x0600_0000, 0x0800_0000] {
         words.extend((0..40).map(|_| random.word() & 0x81ff_f06f | 0x6000_0000 | group));
@@ -97,8 +102,9 @@ fn tied_fields(form: &Form) -> Vec<Vec<(char, u32)>> {
     values
 }
 
-/// Each form's samples; each field at its ends and too large for its place; each
-/// transfer with each addressing, also those that there are not; tied fields.
+/// Each form's sample; each field at its ends and too large for its place, but for a
+/// flag, which a row can't have too large; tied fields; literals of stores, which no
+/// form has.
 fn fields() -> Vec<Fields> {
     let mut rows: Vec<Vec<u64>> = Vec::new();
     let row = |form: &Form, values: &[(char, u32)]| {
@@ -117,7 +123,6 @@ fn fields() -> Vec<Fields> {
         let tied = tied_fields(&form);
         rows.extend(tied.iter().step_by(3).map(|values| row(&form, &with(&form, values))));
     }
-    // A literal of a store.
     rows.extend([1, 3, 5, 9].map(|transfer| vec![2, transfer, 14, 1, 4, 5]));
     rows.iter().filter_map(|row| Fields::from_row(row)).collect()
 }
@@ -144,7 +149,7 @@ fn every_form() -> Vec<(u32, State)> {
     for form in forms() {
         for (p, w) in [(1, 0), (1, 1), (0, 0), (0, 1)] {
             for u in [0, 1] {
-                let word = form.pattern(&with(&form, &[('p', p), ('u', u), ('w', w)]));
+                let word = word_with(&form, &[('p', p), ('u', u), ('w', w)]);
                 accesses.push((word, plain_state(0x10, 0x8000)));
             }
         }
@@ -160,11 +165,11 @@ fn modes() -> Vec<(u32, State)> {
     for mode in MODES {
         for n in 0..16 {
             let state = plain_state(mode.into(), 0x1000);
-            accesses.push((str.pattern(&with(&str, &[('n', n)])), state.clone()));
+            accesses.push((word_with(&str, &[('n', n)]), state.clone()));
             if n > 7 {
-                let offset = ldr.pattern(&with(&ldr, &[('n', 0), ('m', n)]));
+                let offset = word_with(&ldr, &[('n', 0), ('m', n)]);
                 accesses.push((offset, state.clone()));
-                accesses.push((stm.pattern(&with(&stm, &[('n', n), ('w', 1)])), state));
+                accesses.push((word_with(&stm, &[('n', n), ('w', 1)]), state));
             }
         }
     }
@@ -180,12 +185,12 @@ fn ends() -> Vec<(u32, State)> {
         numbers.into_iter().chain(0xffff_fff8..=0xffff_fffb).chain([u32::MAX]).collect();
     let mut turn = Turn::over(2);
     for form in forms() {
-        let narrow = form.name.starts_with("LDRB") || form.name.starts_with("STRH");
-        if !narrow {
+        // One transfer of each group will do.
+        if !form.name.starts_with("LDRB") && !form.name.starts_with("STRH") {
             continue;
         }
         for &pc in &numbers {
-            let word = form.pattern(&with(&form, &[('u', turn.next()), ('n', 15)]));
+            let word = word_with(&form, &[('u', turn.next()), ('n', 15)]);
             accesses.push((word, plain_state(0x1f, pc)));
         }
         for &base in &numbers {
@@ -193,7 +198,7 @@ fn ends() -> Vec<(u32, State)> {
                 let values = [('u', turn.next()), ('w', 1), ('i', offset % 256)];
                 let mut state = plain_state(0x10, 0x8000);
                 (state.registers[2], state.registers[6]) = (base, offset);
-                accesses.push((form.pattern(&with(&form, &values)), state));
+                accesses.push((word_with(&form, &values), state));
             }
         }
     }
@@ -219,7 +224,7 @@ fn lists() -> Vec<(u32, State)> {
                 let values = [('p', p), ('u', u), ('w', w), ('r', list)];
                 let mut state = plain_state(0x10, 0x8000);
                 state.registers[2] = base;
-                accesses.push((form.pattern(&with(form, &values)), state));
+                accesses.push((word_with(form, &values), state));
             }
         }
     }
