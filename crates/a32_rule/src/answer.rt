@@ -1,6 +1,6 @@
 // A word's fields read, and fields written as a word.
 ghost use Rattle.a32_rule.specs.Answer.{Decoding, Encoding};
-use super::rule::legal;
+use super::legality::legal;
 use a32_fields::Fields;
 use a32_fields::fields_at;
 use a32_fields::joined;

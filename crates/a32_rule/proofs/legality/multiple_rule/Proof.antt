@@ -4,8 +4,8 @@ use borrow.Author.Needs.{needs}
 use mathlib.Core.Path.{ap}
 use mathlib.Core.Bool.{Bool, not, _&&_}
 use lib.Dec.{eqb}
-use Rattle.a32_rule.proofs.rule.multiple_rule.Statement.{statement}
-use Rattle.a32_rule.proofs.rule.multiple_rule.Tie as tie
+use Rattle.a32_rule.proofs.legality.multiple_rule.Statement.{statement}
+use Rattle.a32_rule.proofs.legality.multiple_rule.Tie as tie
 
 bit-requires : tie.Need-bit-requires
 bit-requires c κs = search needs

@@ -7,8 +7,8 @@ use Prim.Native.Nat.{_+_}
 use lib.Dec.{eqb}
 use Rattle.a32_fields.specs.Code.{dual}
 use Rattle.a32_rule.proofs.Rules.{among-written}
-use Rattle.a32_rule.proofs.rule.back_rule.Statement.{statement}
-use Rattle.a32_rule.proofs.rule.back_rule.Tie as tie
+use Rattle.a32_rule.proofs.legality.back_rule.Statement.{statement}
+use Rattle.a32_rule.proofs.legality.back_rule.Tie as tie
 
 dual-requires : tie.Need-dual-requires
 dual-requires c κs = search needs

@@ -5,8 +5,8 @@ use mathlib.Core.Path.{_∙_}
 use mathlib.Core.Bool.{not, _&&_}
 use lib.Dec.{eqb}
 use Rattle.a32_rule.proofs.Rules.{immediate-by}
-use Rattle.a32_rule.proofs.rule.immediate_rule.Statement.{statement}
-use Rattle.a32_rule.proofs.rule.immediate_rule.Tie as tie
+use Rattle.a32_rule.proofs.legality.immediate_rule.Statement.{statement}
+use Rattle.a32_rule.proofs.legality.immediate_rule.Tie as tie
 
 target-rule-requires : tie.Need-target-rule-requires
 target-rule-requires c κs = search needs

@@ -4,8 +4,8 @@ use borrow.Author.Needs.{needs}
 use mathlib.Core.Path.{_∙_, ap₂}
 use mathlib.Core.Bool.{_&&_}
 use Rattle.a32_rule.proofs.Rules.{literal-by}
-use Rattle.a32_rule.proofs.rule.literal_rule.Statement.{statement}
-use Rattle.a32_rule.proofs.rule.literal_rule.Tie as tie
+use Rattle.a32_rule.proofs.legality.literal_rule.Statement.{statement}
+use Rattle.a32_rule.proofs.legality.literal_rule.Tie as tie
 
 loads-requires : tie.Need-loads-requires
 loads-requires c κs = search needs

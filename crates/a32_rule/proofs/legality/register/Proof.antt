@@ -5,8 +5,8 @@ use mathlib.Core.Path.{_∙_, sym, ap}
 use mathlib.Core.Bool.{Bool, not, _&&_, _||_}
 use lib.Dec.{ltb}
 use Rattle.a32_rule.proofs.Fits.{legal-register}
-use Rattle.a32_rule.proofs.rule.register.Statement.{statement}
-use Rattle.a32_rule.proofs.rule.register.Tie as tie
+use Rattle.a32_rule.proofs.legality.register.Statement.{statement}
+use Rattle.a32_rule.proofs.legality.register.Tie as tie
 
 register-rule-requires : tie.Need-register-rule-requires
 register-rule-requires c κs = search needs

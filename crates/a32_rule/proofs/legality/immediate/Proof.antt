@@ -7,8 +7,8 @@ use lib.Dec.{ltb}
 use Rattle.a32_fields.specs.declared.kinds.Code.{Code}
 use Rattle.a32_rule.specs.Inner.{immediateFits}
 use Rattle.a32_rule.proofs.Fits.{legal-immediate}
-use Rattle.a32_rule.proofs.rule.immediate.Statement.{statement}
-use Rattle.a32_rule.proofs.rule.immediate.Tie as tie
+use Rattle.a32_rule.proofs.legality.immediate.Statement.{statement}
+use Rattle.a32_rule.proofs.legality.immediate.Tie as tie
 
 code-requires : tie.Need-code-requires
 code-requires c κs = search needs

@@ -3,8 +3,8 @@
 use borrow.Author.Needs.{needs}
 use Rattle.bits.proofs.Arms.{at-arm}
 use Rattle.a32_rule.specs.Legal.{legal}
-use Rattle.a32_rule.proofs.rule.legal.Statement.{statement}
-use Rattle.a32_rule.proofs.rule.legal.Tie as tie
+use Rattle.a32_rule.proofs.legality.legal.Statement.{statement}
+use Rattle.a32_rule.proofs.legality.legal.Tie as tie
 
 enum-known-f : tie.Need-enum-known-f
 enum-known-f c = search needs

@@ -5,8 +5,8 @@ use mathlib.Core.Path.{_∙_, sym, ap}
 use mathlib.Core.Bool.{Bool, _&&_}
 use lib.Dec.{ltb}
 use Rattle.a32_rule.proofs.Fits.{legal-multiple}
-use Rattle.a32_rule.proofs.rule.multiple.Statement.{statement}
-use Rattle.a32_rule.proofs.rule.multiple.Tie as tie
+use Rattle.a32_rule.proofs.legality.multiple.Statement.{statement}
+use Rattle.a32_rule.proofs.legality.multiple.Tie as tie
 
 multiple-rule-requires : tie.Need-multiple-rule-requires
 multiple-rule-requires c κs = search needs

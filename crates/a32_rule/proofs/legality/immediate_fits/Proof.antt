@@ -4,8 +4,8 @@ use borrow.Author.Needs.{needs}
 use Rattle.bits.proofs.Arms.{told}
 use Rattle.a32_fields.specs.declared.kinds.Code.{Code}
 use Rattle.a32_rule.specs.Inner.{immediateFits}
-use Rattle.a32_rule.proofs.rule.immediate_fits.Statement.{statement}
-use Rattle.a32_rule.proofs.rule.immediate_fits.Tie as tie
+use Rattle.a32_rule.proofs.legality.immediate_fits.Statement.{statement}
+use Rattle.a32_rule.proofs.legality.immediate_fits.Tie as tie
 
 enum-told : tie.Need-enum-told
 enum-told c = search needs

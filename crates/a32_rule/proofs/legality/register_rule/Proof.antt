@@ -9,8 +9,8 @@ use Rattle.a32_fields.specs.Code.{loads, dual}
 use Rattle.a32_rule.specs.Rule.{backRule}
 use Rattle.a32_rule.specs.Inner.{targetRule, transferredBy}
 use Rattle.a32_rule.proofs.Rules.{or-two, register-by}
-use Rattle.a32_rule.proofs.rule.register_rule.Statement.{statement}
-use Rattle.a32_rule.proofs.rule.register_rule.Tie as tie
+use Rattle.a32_rule.proofs.legality.register_rule.Statement.{statement}
+use Rattle.a32_rule.proofs.legality.register_rule.Tie as tie
 
 add-loaded : tie.Need-add-loaded
 add-loaded c = search needs

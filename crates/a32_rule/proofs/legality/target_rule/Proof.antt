@@ -9,8 +9,8 @@ use Rattle.a32_fields.specs.declared.kinds.Transfer.{Transfer}
 use Rattle.a32_fields.specs.Code.{dual}
 use Rattle.a32_rule.specs.Rule.{pairRule}
 use Rattle.a32_rule.specs.Inner.{narrow, targetRule}
-use Rattle.a32_rule.proofs.rule.target_rule.Statement.{statement}
-use Rattle.a32_rule.proofs.rule.target_rule.Tie as tie
+use Rattle.a32_rule.proofs.legality.target_rule.Statement.{statement}
+use Rattle.a32_rule.proofs.legality.target_rule.Tie as tie
 
 module _ (x : Transfer) (t : ℕ) where
   abbrev chosen : Bool → Bool → Bool
