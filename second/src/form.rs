@@ -183,7 +183,7 @@ impl Record {
     pub fn word(&self) -> Option<u32> {
         let class = u32::from(self.own_class()?) << 26;
         self.values.iter().zip(self.kind.fields).try_fold(class, |word, (&value, field)| {
-            (value < field.values()).then_some(word + (value << field.low))
+            (value < field.values()).then(|| word + (value << field.low))
         })
     }
 
