@@ -36,12 +36,12 @@ fn word_at(log: &[u8], which: u32, i: usize) -> u64 {
     let address = second.entry;
     if which == 0 {
         if let Entry::Syndrome(esr) = syndrome {
-            esr
+            esr.0
         } else {
             0
         }
     } else if let Entry::Address { far, hpfar } = address {
-        if which == 1 { far } else { hpfar }
+        if which == 1 { far.0 } else { hpfar.0 }
     } else {
         0
     }

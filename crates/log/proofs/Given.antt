@@ -79,8 +79,10 @@ module _ (s : List ℕ) {gone : ℕ} (e : readOf s ≡ Accepted gone) where
   given-in : (n i : ℕ) → n < 4 → i < countAfter s n → entryIn n (drop (i * getD sizes n 0) (bodyAfter s n)) ≡ entryGiven (entriesOf s) n i
   unfolding entriesOf
   given-in zero i h k = ap Entry.Edition (sym (entry-at 1 byteIn (countAfter s 0) (bodyAfter s 0) i 0 k))
-  given-in (suc zero) i h k = ap Entry.Syndrome (sym (entry-at 8 wordIn (countAfter s 1) (bodyAfter s 1) i 0 k))
-  given-in (suc (suc zero)) i h k = ap (λ (a : Address). Entry.Address (a .far) (a .hpfar)) (sym (entry-at 16 pairIn (countAfter s 2) (bodyAfter s 2) i nowhere k))
+  given-in (suc zero) i h k = ap (λ (w : ℕ). Entry.Syndrome (record { 0 = w })) (sym (entry-at 8 wordIn (countAfter s 1) (bodyAfter s 1) i 0 k))
+  given-in (suc (suc zero)) i h k =
+      ap (λ (a : Address). Entry.Address (record { 0 = a .far }) (record { 0 = a .hpfar }))
+      (sym (entry-at 16 pairIn (countAfter s 2) (bodyAfter s 2) i nowhere k))
   given-in (suc (suc (suc zero))) i h k = ap Entry.Injection (sym (entry-at 1 byteIn (countAfter s 3) (bodyAfter s 3) i 0 k))
   given-in (suc (suc (suc (suc n)))) i h k = absurd (omega arith)
 

@@ -13,7 +13,7 @@ pub record Address : Type 0 where
 abbrev pub nowhere : Address
 nowhere = record { far = 0; hpfar = 0 }
 
--- what a log carries
+-- what a log carries, as the numbers that its bytes make. An entry that is given has each word in the struct of its kind (Look.antt).
 pub record Entries : Type 0 where
   pub editions : List ℕ
   pub syndromes : List ℕ

@@ -27,8 +27,8 @@ skipFrom s (suc n) p = skipFrom s n (movedPast (sectionAt s (p .passed) (p .at))
 -- the entry that some bytes begin with, by the number of sections before its own
 abbrev pub entryIn : ℕ → List ℕ → Entry
 entryIn zero s = Entry.Edition (byteIn s)
-entryIn (suc zero) s = Entry.Syndrome (wordIn s)
-entryIn (suc (suc zero)) s = Entry.Address (wordIn s) (wordIn (drop 8 s))
+entryIn (suc zero) s = Entry.Syndrome (record { 0 = wordIn s })
+entryIn (suc (suc zero)) s = Entry.Address (record { 0 = wordIn s }) (record { 0 = wordIn (drop 8 s) })
 entryIn (suc (suc (suc n))) s = Entry.Injection (byteIn s)
 
 -- entry i of a section, or that there is none
@@ -49,6 +49,7 @@ startAfter s (suc n) = startAfter s n + endOf (getD sizes n 0) (restAfter s n)
 -- entry i of section n + 1, of the entries of a log
 abbrev pub entryGiven : Entries → ℕ → ℕ → Entry
 entryGiven e zero i = Entry.Edition (getD (e .editions) i 0)
-entryGiven e (suc zero) i = Entry.Syndrome (getD (e .syndromes) i 0)
-entryGiven e (suc (suc zero)) i = Entry.Address (getD (e .addresses) i nowhere .far) (getD (e .addresses) i nowhere .hpfar)
+entryGiven e (suc zero) i = Entry.Syndrome (record { 0 = getD (e .syndromes) i 0 })
+entryGiven e (suc (suc zero)) i =
+    Entry.Address (record { 0 = getD (e .addresses) i nowhere .far }) (record { 0 = getD (e .addresses) i nowhere .hpfar })
 entryGiven e (suc (suc (suc n))) i = Entry.Injection (getD (e .injections) i 0)

@@ -7,6 +7,9 @@ ghost use Prim.Native.Nat.{_+_, _≤_, _<_};
 ghost use lib.ListN.{length, drop, getD};
 ghost use Rattle.log.specs.Section.{sizes};
 ghost use Rattle.log.specs.Look.{sectionAt, skipFrom, entryIn, lookAt};
+use address::Far;
+use address::Hpfar;
+use record::Esr;
 use super::number::eight;
 use super::section::ADDRESS;
 use super::section::EDITION;
@@ -20,10 +23,11 @@ pub struct Place {
     pub at: usize,
 }
 
+// Each word is a struct of its kind, so that a caller can't exchange ESR, FAR and HPFAR.
 pub enum Entry {
     Edition(u8),
-    Syndrome(u64),
-    Address { far: u64, hpfar: u64 },
+    Syndrome(Esr),
+    Address { far: Far, hpfar: Hpfar },
     Injection(u8),
     None,
 }
@@ -90,10 +94,10 @@ fn entry_in(log: &[u8], passed: u32, at: usize) -> Entry
 {
     match passed {
         0 => Entry::Edition(log[at]),
-        1 => Entry::Syndrome(eight(log, at)),
+        1 => Entry::Syndrome(Esr(eight(log, at))),
         2 => Entry::Address {
-            far: eight(log, at),
-            hpfar: eight(log, at + 8),
+            far: Far(eight(log, at)),
+            hpfar: Hpfar(eight(log, at + 8)),
         },
         _ => Entry::Injection(log[at]),
     }

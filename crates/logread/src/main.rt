@@ -53,9 +53,9 @@ fn answers(line: &mut [u8], seen: Seen, esr: u64, far: u64, hpfar: u64) {
 fn trap_at(log: &[u8], line: &mut [u8], seen: Seen, i: usize) {
     if let Entry::Syndrome(esr) = entries::entry(log, 1, i) {
         if let Entry::Address { far, hpfar } = entries::entry(log, 2, i) {
-            let end = log_text::words_line(line, 0, esr, far, hpfar);
+            let end = log_text::words_line(line, 0, esr.0, far.0, hpfar.0);
             put(line, end);
-            answers(line, seen, esr, far, hpfar);
+            answers(line, seen, esr.0, far.0, hpfar.0);
         }
     }
 }

@@ -2,6 +2,7 @@
 -- Assumes nothing.
 use borrow.Author.Needs.{needs}
 use mathlib.Core.Path.{_≡_, ap}
+use Prim.Native.Nat.{ℕ}
 use native.Mathlib.Omega.{arith}
 use denote.Ref.{now}
 use lib.Seq.{drop-drop}
@@ -47,7 +48,7 @@ returns c =
     rw (c .before .match .keys1) (ap Entry.Edition (number-one (now (a .log)) (a .at) (omega (arith, room))))
 
 returns-2 : tie.Need-returns-2
-returns-2 c = rw (c .before .match .keys2) (ap Entry.Syndrome (c .eight .ensures))
+returns-2 c = rw (c .before .match .keys2) (ap (λ (w : ℕ). Entry.Syndrome (record { 0 = w })) (c .eight .ensures))
 
 returns-3 : tie.Need-returns-3
 returns-3 c =
