@@ -3,6 +3,7 @@ ghost use mathlib.Core.Path.{_≡_};
 ghost use Rattle.record.specs.Split.{plainAt, wfxAt, mcrAt, mcrrAt, ldcAt, simdAt, callAt, smcAt, instructionAbortAt, dataAbortAt, recordOf, recordAt};
 use super::kinds::Call;
 use super::kinds::DataAbort;
+use super::kinds::Esr;
 use super::kinds::InstructionAbort;
 use super::kinds::Ldc;
 use super::kinds::Mcr;
@@ -168,8 +169,9 @@ fn record_of(class: u32, word: u64) -> Record
 }
 
 // The record at a word's bits, by the layout of the word's own class.
-pub fn record_at(word: u64) -> Record
-    ensures { λ r. ⌜ r ≡ recordAt word ⌝ }
+pub fn record_at(esr: Esr) -> Record
+    ensures { λ r. ⌜ r ≡ recordAt (esr .0) ⌝ }
 {
+    let word = esr.0;
     record_of(field32(word, 31, 26), word)
 }

@@ -12,9 +12,9 @@ use Rattle.short_record.specs.Fields.{recordWord}
 use Rattle.short_record.specs.declared.kinds.Hsr.{Hsr}
 use Rattle.short_record.specs.declared.kinds.Record.{Record}
 use Rattle.short_rule.specs.Has.{has, editionsOf}
-use Rattle.short.specs.Numbers.{numberRead, maskRead, countRead, numberWritten, numberCarried, maskCarried, countCarried}
+use Rattle.short.specs.Numbers.{numberRead, maskRead, countRead, numberCarried, maskCarried, countCarried}
 use Rattle.short.specs.Tests.{writeTests}
-use Rattle.short.specs.Reading.{asRead, readOf}
+use Rattle.short.specs.Reading.{asRead, readOf, Reading}
 use Rattle.short.specs.Writing.{asWritten, writeOf, Writing}
 use Rattle.short.specs.Carry.{rewritten, Rewriting, carriedFrom, carriedOf, carryNumber, Carrying}
 use Rattle.short.specs.declared.answer.Read.{Read}
@@ -22,13 +22,12 @@ use Rattle.short.specs.declared.answer.Written.{Written}
 use Rattle.short.specs.declared.answer.Carried.{Carried}
 use Rattle.short.proofs.Promises.{read-says, reads, writes}
 
-same-number : (hsr : Hsr) (a : Read) → numberWritten (rewritten hsr a) ≡ numberRead a
-same-number hsr (Read.Taken r) = refl
-same-number hsr (Read.Refused f) = refl
+rewriting : (e : ℕ) (hsr : Hsr) (a : Read) → Reading e hsr a → Rewriting e hsr (rewritten hsr a)
+rewriting e hsr (Read.Taken r) p = record { answer = ap (rewritten hsr) (p .answer); number = p .number; mask = p .mask; count = p .count }
+rewriting e hsr (Read.Refused f) p = record { answer = ap (rewritten hsr) (p .answer); number = p .number; mask = p .mask; count = p .count }
 
 pub rewrites : (e : ℕ) (hsr : Hsr) {a : Written} → a ≡ rewritten hsr (readOf e hsr) → Rewriting e hsr a
-rewrites e hsr same =
-    subst (Rewriting e hsr) (sym same) record { answer = refl; number = same-number hsr (readOf e hsr) ∙ reads e hsr refl .number }
+rewrites e hsr same = subst (Rewriting e hsr) (sym same) (rewriting e hsr (readOf e hsr) (reads e hsr refl))
 
 module _ (writer reader : ℕ) (r : Record) where
   carried-number : numberCarried (carriedOf writer reader r) ≡ carryNumber writer reader r

@@ -3,15 +3,15 @@ use Prim.Native.Nat.{ℕ}
 use mathlib.Core.Path.{_≡_}
 use mathlib.Core.List.{[], _∷_}
 use Rattle.bits.specs.Decide.{needs, decide}
-use Rattle.short_rule.specs.Edition.{editions, isEdition}
+use Rattle.short_rule.specs.Edition.{editions, isEdition, maskOf}
 use Rattle.edition.specs.Mask.{countBelow}
 use Rattle.form.specs.Call.{sixOnly}
 use Rattle.form.specs.Form as Form
 use Rattle.short_record.specs.declared.kinds.Hsr.{Hsr}
 use Rattle.short_record.specs.declared.kinds.Record.{Record}
 use Rattle.short_rule.specs.Has.{has, editionsOf}
-use Rattle.short.specs.Numbers.{numberWritten, numberCarried, maskCarried, countCarried}
-use Rattle.short.specs.Reading.{asRead, readOf, readNumber}
+use Rattle.short.specs.Numbers.{numberWritten, maskWritten, countWritten, numberCarried, maskCarried, countCarried}
+use Rattle.short.specs.Reading.{hasWord, asRead, readOf, readNumber}
 use Rattle.short.specs.Writing.{writeOf, writeList}
 use Rattle.short.specs.declared.answer.Read.{Read}
 use Rattle.short.specs.declared.answer.Written.{Written}
@@ -25,6 +25,8 @@ rewritten hsr (Read.Refused refusal) = Written.Refused refusal
 pub record Rewriting (e : ℕ) (hsr : Hsr) (a : Written) : Type 0 where
   pub answer : a ≡ rewritten hsr (readOf e hsr)
   pub number : numberWritten a ≡ readNumber e hsr
+  pub mask : maskWritten a ≡ sixOnly (numberWritten a) (maskOf (λ x. hasWord x (hsr .0)))
+  pub count : countWritten a ≡ sixOnly (numberWritten a) (countBelow editions (λ x. hasWord x (hsr .0)))
 
 -- DEMAND 3: what the writer's edition puts out, the reader's gives back as that very record exactly when it has it, and otherwise refusal 6
 -- (1, where the reader's edition is none)

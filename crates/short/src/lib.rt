@@ -56,7 +56,7 @@ pub fn read(edition: u32, hsr: Hsr) -> Read
     if !word_il(word) {
         return Read::Refused(Refusal::ShortInstruction);
     }
-    let r = short_record::record_at(word);
+    let r = short_record::record_at(hsr);
     match edition::judge(edition, word_editions(r, word)) {
         Verdict::Taken => Read::Taken(r),
         Verdict::Refused(refusal) => Read::Refused(refusal),

@@ -2,6 +2,7 @@
 ghost use mathlib.Core.Path.{_≡_};
 ghost use Rattle.short_record.specs.Split.{mcrAt, mcrrAt, ldcAt, simdAt, instructionAbortAt, dataAbortAt, recordOf, recordAt};
 use super::kinds::DataAbort;
+use super::kinds::Hsr;
 use super::kinds::InstructionAbort;
 use super::kinds::Ldc;
 use super::kinds::Mcr;
@@ -123,8 +124,9 @@ fn record_of(class: u32, word: u64) -> Record
 }
 
 // The record at a word's bits, by the layout of the word's own class.
-pub fn record_at(word: u64) -> Record
-    ensures { λ r. ⌜ r ≡ recordAt word ⌝ }
+pub fn record_at(hsr: Hsr) -> Record
+    ensures { λ r. ⌜ r ≡ recordAt (hsr .0) ⌝ }
 {
+    let word = hsr.0 as u64;
     record_of(field32(word, 31, 26), word)
 }

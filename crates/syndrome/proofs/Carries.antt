@@ -12,9 +12,9 @@ use Rattle.record.specs.Fields.{recordWord}
 use Rattle.record.specs.declared.kinds.Esr.{Esr}
 use Rattle.record.specs.declared.kinds.Record.{Record}
 use Rattle.rule.specs.Has.{has, editionsOf}
-use Rattle.syndrome.specs.Numbers.{numberRead, maskRead, countRead, numberWritten, numberCarried, maskCarried, countCarried}
+use Rattle.syndrome.specs.Numbers.{numberRead, maskRead, countRead, numberCarried, maskCarried, countCarried}
 use Rattle.syndrome.specs.Tests.{writeTests}
-use Rattle.syndrome.specs.Reading.{asRead, readOf}
+use Rattle.syndrome.specs.Reading.{asRead, readOf, Reading}
 use Rattle.syndrome.specs.Writing.{asWritten, writeOf, Writing}
 use Rattle.syndrome.specs.Carry.{rewritten, Rewriting, carriedFrom, carriedOf, carryNumber, Carrying}
 use Rattle.syndrome.specs.declared.answer.Read.{Read}
@@ -22,13 +22,12 @@ use Rattle.syndrome.specs.declared.answer.Written.{Written}
 use Rattle.syndrome.specs.declared.answer.Carried.{Carried}
 use Rattle.syndrome.proofs.Promises.{read-says, reads, writes}
 
-same-number : (esr : Esr) (a : Read) → numberWritten (rewritten esr a) ≡ numberRead a
-same-number esr (Read.Taken r) = refl
-same-number esr (Read.Refused f) = refl
+rewriting : (e : ℕ) (esr : Esr) (a : Read) → Reading e esr a → Rewriting e esr (rewritten esr a)
+rewriting e esr (Read.Taken r) p = record { answer = ap (rewritten esr) (p .answer); number = p .number; mask = p .mask; count = p .count }
+rewriting e esr (Read.Refused f) p = record { answer = ap (rewritten esr) (p .answer); number = p .number; mask = p .mask; count = p .count }
 
 pub rewrites : (e : ℕ) (esr : Esr) {a : Written} → a ≡ rewritten esr (readOf e esr) → Rewriting e esr a
-rewrites e esr same =
-    subst (Rewriting e esr) (sym same) record { answer = refl; number = same-number esr (readOf e esr) ∙ reads e esr refl .number }
+rewrites e esr same = subst (Rewriting e esr) (sym same) (rewriting e esr (readOf e esr) (reads e esr refl))
 
 module _ (writer reader : ℕ) (r : Record) where
   carried-number : numberCarried (carriedOf writer reader r) ≡ carryNumber writer reader r

@@ -4,14 +4,14 @@ use mathlib.Core.Path.{_≡_}
 use mathlib.Core.List.{[], _∷_}
 use Rattle.bits.specs.Decide.{needs, decide}
 use Rattle.edition.specs.Feature.{editions, isEdition}
-use Rattle.edition.specs.Mask.{countBelow}
+use Rattle.edition.specs.Mask.{maskOf, countBelow}
 use Rattle.form.specs.Call.{sixOnly}
 use Rattle.form.specs.Form as Form
 use Rattle.record.specs.declared.kinds.Esr.{Esr}
 use Rattle.record.specs.declared.kinds.Record.{Record}
 use Rattle.rule.specs.Has.{has, editionsOf}
-use Rattle.syndrome.specs.Numbers.{numberWritten, numberCarried, maskCarried, countCarried}
-use Rattle.syndrome.specs.Reading.{asRead, readOf, readNumber}
+use Rattle.syndrome.specs.Numbers.{numberWritten, maskWritten, countWritten, numberCarried, maskCarried, countCarried}
+use Rattle.syndrome.specs.Reading.{hasWord, asRead, readOf, readNumber}
 use Rattle.syndrome.specs.Writing.{writeOf, writeList}
 use Rattle.syndrome.specs.declared.answer.Read.{Read}
 use Rattle.syndrome.specs.declared.answer.Written.{Written}
@@ -25,6 +25,8 @@ rewritten esr (Read.Refused refusal) = Written.Refused refusal
 pub record Rewriting (e : ℕ) (esr : Esr) (a : Written) : Type 0 where
   pub answer : a ≡ rewritten esr (readOf e esr)
   pub number : numberWritten a ≡ readNumber e esr
+  pub mask : maskWritten a ≡ sixOnly (numberWritten a) (maskOf (λ x. hasWord x (esr .0)))
+  pub count : countWritten a ≡ sixOnly (numberWritten a) (countBelow editions (λ x. hasWord x (esr .0)))
 
 -- DEMAND 3: what the writer's edition puts out, the reader's gives back as that very record exactly when it has it, and otherwise refusal 6
 -- (1, where the reader's edition is none)

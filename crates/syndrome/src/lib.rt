@@ -59,7 +59,7 @@ pub fn read(edition: u32, esr: Esr) -> Read
     if !word_il(word) {
         return Read::Refused(Refusal::ShortInstruction);
     }
-    let r = record::record_at(word);
+    let r = record::record_at(esr);
     match edition::judge(edition, word_editions(r, word)) {
         Verdict::Taken => Read::Taken(r),
         Verdict::Refused(refusal) => Read::Refused(refusal),

@@ -40,7 +40,13 @@ module _ (mode : ℕ) (r : Short) where
 
   widening : Widening mode r (widenOf mode r)
   unfolding widenOf
-  widening = record { answer = refl; number = decide-relabel numberWidened (widenTests mode r) (Widened.Long (longOf mode r)) }
+  widening =
+      record {
+        answer = refl;
+        number = decide-relabel numberWidened (widenTests mode r) (Widened.Long (longOf mode r));
+        mask = refl;
+        count = refl;
+      }
 
   pub widens : {a : Widened} → a ≡ widenOf mode r → Widening mode r a
   widens same = subst (Widening mode r) (sym same) widening

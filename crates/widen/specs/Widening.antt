@@ -34,11 +34,17 @@ widenTests mode r =
 unfoldable pub widenOf : ℕ → Short → Widened
 widenOf mode r = decide (widenTests mode r) (Widened.Long (longOf mode r))
 
--- the paper's number of each answer; none carries a mask or a count
+-- the paper's number, mask and number of ones of each answer: mask and number of ones come with 6 alone, which the change doesn't give
 abbrev pub numberWidened : Widened → ℕ
 numberWidened (Widened.Long r) = 0
 numberWidened Widened.BadMode = 9
 numberWidened Widened.NoEdition = 5
+
+abbrev pub maskWidened : Widened → ℕ
+maskWidened a = 0
+
+abbrev pub countWidened : Widened → ℕ
+countWidened a = 0
 
 -- the tests, each with its number
 abbrev pub widenList : ℕ → Short → List (Test ℕ)
@@ -49,7 +55,9 @@ widenList mode r =
     ∷ needs (someLong (longOf mode r)) 5
     ∷ []
 
--- THE PROMISE: the answer, and its number, that of the first test that fails
+-- THE PROMISE: the answer; its number, that of the first test that fails; and mask and count, which are 0
 pub record Widening (mode : ℕ) (r : Short) (a : Widened) : Type 0 where
   pub answer : a ≡ widenOf mode r
   pub number : numberWidened a ≡ decide (widenList mode r) 0
+  pub mask : maskWidened a ≡ 0
+  pub count : countWidened a ≡ 0
