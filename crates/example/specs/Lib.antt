@@ -1,0 +1,2 @@
+-- What the example's answer leaves of the guest.
+pub mod AsFound

@@ -1,0 +1,179 @@
+// A monitor's answer to a trap of its guest, which has one emulated card: a start for a monitor of your own.
+ghost use Rattle.example.specs.AsFound.{AsFound};
+use a32_access::Access;
+use address::Far;
+use address::Hpfar;
+use address::IntermediateAddress;
+use address::VirtualAddress;
+use fault::Fault;
+use guest::Fetch;
+use guest::Guest;
+use guest::Injection;
+use record::Esr;
+use record::Record;
+use trap::Abort;
+use trap::Trap;
+
+// The page of intermediate addresses that the card stands at.
+const CARD: u64 = 0x0A00_0000;
+
+// What the monitor does next.
+pub enum Next {
+    // The guest goes on, in the state beside this.
+    Resume,
+    // So it does, and the card gets this value.
+    Give(u32),
+    // The monitor makes this access for the guest; `a32_access::registers_of` tells its registers in transfer order.
+    Perform(Access),
+    // Nothing was done: the refusal's number.
+    Refused(u32),
+}
+
+pub struct Answered {
+    pub next: Next,
+    pub state: Guest,
+}
+
+// The guest gets an exception.
+fn injected(state: Guest, what: Injection) -> Answered
+    ensures { λ r. ⌜ AsFound state r ⌝ }
+{
+    let done = guest::inject(state, what);
+    let answer = done.answer;
+    let after = done.state;
+    match answer {
+        guest::Answer::Accepted => Answered {
+            next: Next::Resume,
+            state: after,
+        },
+        refusal => Answered {
+            next: Next::Refused(guest::number(refusal)),
+            state,
+        },
+    }
+}
+
+// The chip described the access (ISV 1): it is finished with the card's value.
+fn finished(state: Guest, record: Record, value: u32) -> Answered
+    ensures { λ r. ⌜ AsFound state r ⌝ }
+{
+    let done = device::finish(state, record, value);
+    let answer = done.answer;
+    let after = done.state;
+    match answer {
+        device::Answer::Loaded => Answered {
+            next: Next::Resume,
+            state: after,
+        },
+        device::Answer::Stored(given) => Answered {
+            next: Next::Give(given),
+            state: after,
+        },
+        refusal => Answered {
+            next: Next::Refused(device::number(refusal)),
+            state,
+        },
+    }
+}
+
+// The chip described nothing (ISV 0): the instruction word at the guest's PC does, or the guest gets the abort.
+fn described(state: Guest, word: u32, abort: Injection) -> Answered
+    ensures { λ r. ⌜ AsFound state r ⌝ }
+{
+    let done = a32::describe(state, word);
+    let answer = done.answer;
+    match answer {
+        a32::Answer::Taken(access) => Answered {
+            next: Next::Perform(access),
+            state,
+        },
+        _ => injected(state, abort),
+    }
+}
+
+fn at_card(address: IntermediateAddress) -> bool {
+    match address {
+        IntermediateAddress::Byte(byte) => byte / 4096 == CARD / 4096,
+        _ => false,
+    }
+}
+
+// The address that the guest is told: FAR, where it is known.
+fn told(address: VirtualAddress) -> u64 {
+    match address {
+        VirtualAddress::Known(far) => far,
+        VirtualAddress::Unknown => 0,
+    }
+}
+
+fn aborted(state: Guest, abort: Abort, word: u32, value: u32) -> Answered
+    ensures { λ r. ⌜ AsFound state r ⌝ }
+{
+    let record = abort.syndrome;
+    let far = abort.address;
+    let place = abort.intermediate;
+    let fault = Fault::External;
+    let address = told(far);
+    match record {
+        Record::DataAbort(data) => {
+            let what = Injection::DataAbort(guest::Access {
+                fault,
+                address,
+                write: data.wnr,
+            });
+            if !at_card(place) {
+                injected(state, what)
+            } else if data.isv {
+                finished(state, record, value)
+            } else {
+                described(state, word, what)
+            }
+        }
+        _ => injected(state, Injection::PrefetchAbort(Fetch { fault, address })),
+    }
+}
+
+// What the guest gets for a trapped instruction. PC is at the instruction, but after an SVC or an HVC.
+fn exception(record: Record) -> Injection {
+    match record {
+        Record::Call(call) => {
+            if call.class == 0x11 {
+                Injection::SupervisorCall
+            } else {
+                Injection::UndefinedAfter
+            }
+        }
+        _ => Injection::UndefinedAt,
+    }
+}
+
+// Answers a trap: `word` is the instruction at the guest's PC, and `value` what the card gives to a load.
+pub fn answer(
+    state: Guest,
+    edition: u32,
+    esr: Esr,
+    far: Far,
+    hpfar: Hpfar,
+    word: u32,
+    value: u32,
+) -> Answered
+    ensures { λ r. ⌜ AsFound state r ⌝ }
+{
+    match trap::read(edition, esr, far, hpfar) {
+        trap::Answer::Refused(refusal) => Answered {
+            next: Next::Refused(trap::number(refusal)),
+            state,
+        },
+        trap::Answer::Shown(shown) => match shown {
+            Trap::Abort(abort) => aborted(state, abort, word, value),
+            Trap::Addressed(at) => injected(
+                state,
+                Injection::PrefetchAbort(Fetch {
+                    fault: Fault::External,
+                    address: at.address,
+                }),
+            ),
+            Trap::Plain(record) => injected(state, exception(record)),
+        },
+    }
+}
