@@ -9,7 +9,7 @@ use Rattle.bits.proofs.Deciding.{decided-with-exactly}
 use Rattle.bits.proofs.Arms.{absurd-answer}
 use Rattle.status.specs.Sound.{sound}
 use Rattle.status.specs.Entry.{t32}
-use Rattle.guest.specs.declared.state.Guest.{Guest}
+use Rattle.exception.specs.declared.state.Guest.{Guest}
 use Rattle.a32_fields.specs.Layout.{fieldsWord}
 use Rattle.a32_fields.specs.Split.{fieldsAt}
 use Rattle.a32_fields.specs.declared.kinds.Fields.{Fields}

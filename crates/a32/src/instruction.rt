@@ -7,7 +7,7 @@ use a32_access::registers_of;
 use a32_rule::Decoded;
 use a32_rule::decode;
 use bits::field32;
-use guest::Guest;
+use exception::Guest;
 use status::sound;
 use status::t32;
 

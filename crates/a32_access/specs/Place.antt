@@ -1,15 +1,14 @@
 -- The first address and the change of the base (02, C-18), from the base's value and the size of the offset. U adds the offset, or else subtracts it.
 use Prim.Native.Nat.{ℕ, _-_, _*_}
-use mathlib.Core.Bool.{Bool, true, false, cond}
+use mathlib.Core.Bool.{Bool, false, cond}
 use mathlib.Core.List.{List}
 use lib.Count.{ones}
-use lib.IntN.{ℤ, pos, negℤ}
-use Rattle.guest.specs.Link.{linkOf}
+use Rattle.signed.specs.declared.Signed.{Signed}
+use Rattle.signed.specs.declared.Signed.the-variants.{Plus, Minus}
+use Rattle.signed.specs.Signed.{signed, sumOf}
 use Rattle.a32_fields.specs.declared.kinds.Fields.{Fields}
 use Rattle.a32_rule.specs.Rule.{writesBack}
 use Rattle.a32_access.specs.Value.{valueOf, literalBase}
-use Rattle.a32_access.specs.declared.place.Change.{Change}
-use Rattle.a32_access.specs.declared.place.Change.the-variants.{Plus, Minus}
 
 -- the value of the base, and the size of the offset: an immediate, a register's value as unsigned, or 4 for each register of a list
 abbrev pub baseOf : List ℕ → ℕ → ℕ → Fields → ℕ
@@ -50,22 +49,13 @@ distanceOf (Fields.Literal r) size = size
 distanceOf (Fields.Multiple r) size = listDistance (r .p) (r .u) size
 
 -- a size, added or subtracted
-abbrev pub signed : Bool → ℕ → ℤ
-signed true n = pos n
-signed false n = negℤ (pos n)
+abbrev pub signedBy : Bool → ℕ → Signed
+signedBy u size = cond u (Plus size) (Minus size)
 
--- THE FIRST ADDRESS, modulo 2^32: the same sum as a link's
+-- THE FIRST ADDRESS, modulo 2^32
 abbrev pub addressOf : Fields → ℕ → ℕ → ℕ
-addressOf f base size = linkOf base (signed (upOf f) (distanceOf f size))
+addressOf f base size = sumOf base (signed (signedBy (upOf f) (distanceOf f size)))
 
 -- THE CHANGE of the base: the offset, added or subtracted, where the base is written back, else 0
-abbrev pub changeBy : Bool → ℕ → Change
-changeBy u size = cond u (Plus size) (Minus size)
-
-abbrev pub changeOf : Fields → ℕ → Change
-changeOf f size = cond (backOf f) (changeBy (upOf f) size) (Plus 0)
-
--- the signed number that it is
-abbrev pub changed : Change → ℤ
-changed (Plus n) = pos n
-changed (Minus n) = negℤ (pos n)
+abbrev pub changeOf : Fields → ℕ → Signed
+changeOf f size = cond (backOf f) (signedBy (upOf f) size) (Plus 0)

@@ -4,7 +4,6 @@ ghost use Prim.Native.Nat.{_*_};
 ghost use lib.Count.{ones};
 ghost use Rattle.a32_access.specs.Place.{baseOf, offsetOf};
 ghost use Rattle.a32_access.specs.Access.{accessIn};
-use crate::place::Change;
 use crate::place::address_of;
 use crate::place::change_of;
 use crate::registers::count_of;
@@ -12,13 +11,14 @@ use crate::registers::ones_of;
 use crate::value::literal_base;
 use crate::value::value_of;
 use a32_fields::Fields;
+use signed::Signed;
 
 // The instruction's fields, the number of its registers, the first address, and the change of the base.
 pub struct Access {
     pub fields: Fields,
     pub count: u32,
     pub address: u32,
-    pub change: Change,
+    pub change: Signed,
 }
 
 fn base_of(regs: [u32; 31], pc: u32, mode: u32, f: Fields) -> u32

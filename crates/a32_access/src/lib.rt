@@ -6,5 +6,4 @@ mod value;
 
 pub use access::Access;
 pub use access::access_in;
-pub use place::Change;
 pub use registers::registers_of;

@@ -1,17 +1,10 @@
 // Where a load or store begins, and what becomes of its base.
 ghost use mathlib.Core.Path.{_≡_};
 ghost use mathlib.Core.Bool.{cond};
-ghost use Rattle.guest.specs.Link.{linkOf};
-ghost use Rattle.a32_access.specs.Place.{upOf, backOf, listDistance, distanceOf, signed, addressOf, changeBy, changeOf};
+ghost use Rattle.a32_access.specs.Place.{upOf, backOf, listDistance, distanceOf, signedBy, addressOf, changeOf};
 use a32_fields::Fields;
-use std::num::wrapping_add_u32;
-use std::num::wrapping_sub_u32;
-
-// The signed change of the base, by its sign and its size: an offset register counts as unsigned, so that 32 bits hold only the size.
-pub enum Change {
-    Plus(u32),
-    Minus(u32),
-}
+use signed::Signed;
+use signed::sum;
 
 fn up(f: Fields) -> bool
     ensures { λ yes. ⌜ yes ≡ upOf f ⌝ }
@@ -69,40 +62,30 @@ fn distance(f: Fields, size: u32) -> u32
     }
 }
 
-// Wraps at both ends of the address range.
-fn moved(base: u32, up: bool, size: u32) -> u32
-    ensures { λ r. ⌜ r ≡ linkOf base (signed up size) ⌝ }
+// A size, added or subtracted.
+fn signed_by(up: bool, size: u32) -> Signed
+    ensures { λ r. ⌜ r ≡ signedBy up size ⌝ }
 {
     if up {
-        wrapping_add_u32(base, size)
+        Signed::Plus(size)
     } else {
-        wrapping_sub_u32(base, size)
+        Signed::Minus(size)
     }
 }
 
 pub(crate) fn address_of(f: Fields, base: u32, size: u32) -> u32
     ensures { λ r. ⌜ r ≡ addressOf f base size ⌝ }
 {
-    moved(base, up(f), distance(f, size))
+    sum(base, signed_by(up(f), distance(f, size)))
 }
 
-fn change_by(up: bool, size: u32) -> Change
-    ensures { λ r. ⌜ r ≡ changeBy up size ⌝ }
-{
-    if up {
-        Change::Plus(size)
-    } else {
-        Change::Minus(size)
-    }
-}
-
-// Nothing without write-back.
-pub(crate) fn change_of(f: Fields, size: u32) -> Change
+// The change of the base: 0 without write-back.
+pub(crate) fn change_of(f: Fields, size: u32) -> Signed
     ensures { λ r. ⌜ r ≡ changeOf f size ⌝ }
 {
     if back(f) {
-        change_by(up(f), size)
+        signed_by(up(f), size)
     } else {
-        Change::Plus(0)
+        Signed::Plus(0)
     }
 }

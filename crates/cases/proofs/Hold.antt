@@ -22,20 +22,20 @@ use Rattle.status.specs.Base.{unmarked}
 use Rattle.status.specs.Sound.{sound}
 use Rattle.status.specs.Entry.{t32, entryStatus}
 use Rattle.status.specs.declared.Mode.the-variants.{Abort, Undefined}
-use Rattle.guest.specs.Tests.{aligned}
+use Rattle.exception.specs.Vector.{aligned, vectorBase}
 use Rattle.guest.specs.Injection.{injectionRow}
 use Rattle.bits.specs.Field.{bitOf}
-use Rattle.guest.specs.declared.link.Correction.{Correction}
-use Rattle.guest.specs.declared.link.Correction.the-variants.{Plus}
-use Rattle.guest.specs.Link.{signed, linkOf}
-use Rattle.guest.specs.Entry.{vectorBase, correctionIn, entered}
-use Rattle.guest.specs.Inject.{guestAfter, injected}
+use Rattle.signed.specs.declared.Signed.{Signed}
+use Rattle.signed.specs.declared.Signed.the-variants.{Plus}
+use Rattle.signed.specs.Signed.{signed, sumOf}
+use Rattle.exception.specs.Entry.{correctionIn, entered}
+use Rattle.guest.specs.Inject.{faultsAfter, guestAfter, injected}
 use Rattle.guest.specs.declared.injection.Injection.{Injection}
 use Rattle.guest.specs.declared.injection.Injection.the-variants.{UndefinedAt, DataAbort}
 use Rattle.guest.specs.declared.injection.Access.{Access}
-use Rattle.guest.specs.declared.state.Guest.{Guest}
+use Rattle.exception.specs.declared.state.Guest.{Guest}
 use Rattle.guest.proofs.Answers.{Passes, accepted-exactly, accepted-state}
-use Rattle.guest.proofs.Registers.{link-held}
+use Rattle.exception.proofs.Registers.{link-held}
 use Rattle.cases.specs.Case.{Leaves, Whole, Passing, AllHold}
 use Rattle.cases.specs.Starred.{starred}
 
@@ -56,15 +56,15 @@ leaves s i p new-status new-link new-pc =
 -- an undefined instruction at PC, by the four registers that its case gives
 undefined : (s : Guest) (status pc vbar sctlr : ℕ) → Whole s → sound unmarked status ≡ true → aligned vbar ≡ true
     → s .status ≡ status → s .pc ≡ pc → s .vbar ≡ vbar → s .sctlr ≡ sctlr
-    → Leaves s UndefinedAt (entryStatus unmarked Undefined false status sctlr) (linkOf pc (signed (correctionIn (injectionRow UndefinedAt) (t32 status))))
+    → Leaves s UndefinedAt (entryStatus unmarked Undefined false false status sctlr) (sumOf pc (signed (correctionIn (injectionRow UndefinedAt) (t32 status))))
     ((vectorBase sctlr vbar + 0x04) % 2 ^ 32)
 unfolding entered
 undefined s status pc vbar sctlr whole is-sound is-aligned st p v sc =
     leaves s UndefinedAt
     (record { status = ap₂ sound (whole .marks) st ∙ is-sound; vbar = ap aligned v ∙ is-aligned; fault = refl; address = refl })
-    (ap (λ (m : Marks). entryStatus m Undefined false (s .status) (s .sctlr)) (whole .marks) ∙ ap₂ (entryStatus unmarked Undefined false) st sc)
-    (link-held s UndefinedAt (subst (λ (n : ℕ). 22 < n) (sym (whole .registers)) (lit< tt))
-    ∙ ap₂ (λ (x y : ℕ). linkOf x (signed (correctionIn (injectionRow UndefinedAt) (t32 y)))) p st)
+    (ap (λ (m : Marks). entryStatus m Undefined false false (s .status) (s .sctlr)) (whole .marks) ∙ ap₂ (entryStatus unmarked Undefined false false) st sc)
+    (link-held s (injectionRow UndefinedAt) (s .faults) (subst (λ (n : ℕ). 22 < n) (sym (whole .registers)) (lit< tt))
+    ∙ ap₂ (λ (x y : ℕ). sumOf x (signed (correctionIn (injectionRow UndefinedAt) (t32 y)))) p st)
     (ap₂ (λ (x y : ℕ). (vectorBase x y + 0x04) % 2 ^ 32) sc v)
 
 -- the correction of a data abort is one in both instruction sets
@@ -74,18 +74,18 @@ abort-correction a false = refl
 
 -- a data abort of a fault and an address that pass, with high vectors
 aborted : (s : Guest) (a : Access) (status sctlr : ℕ) → Passing s a → sound unmarked status ≡ true → bitOf sctlr 13 ≡ true
-    → s .status ≡ status → s .sctlr ≡ sctlr → Leaves s (DataAbort a) (entryStatus unmarked Abort true status sctlr) (linkOf (s .pc) (pos 8)) 0xFFFF0010
+    → s .status ≡ status → s .sctlr ≡ sctlr → Leaves s (DataAbort a) (entryStatus unmarked Abort true false status sctlr) (sumOf (s .pc) (pos 8)) 0xFFFF0010
 unfolding entered
 aborted s a status sctlr p is-sound high st sc =
     leaves s (DataAbort a) (record { status = ap₂ sound (p .whole .marks) st ∙ is-sound; vbar = p .vbar; fault = p .fault; address = p .address })
-    (ap (λ (m : Marks). entryStatus m Abort true (s .status) (s .sctlr)) (p .whole .marks) ∙ ap₂ (entryStatus unmarked Abort true) st sc)
-    (link-held s (DataAbort a) (subst (λ (n : ℕ). 20 < n) (sym (p .whole .registers)) (lit< tt))
-    ∙ ap (λ (c : Correction). linkOf (s .pc) (signed c)) (abort-correction a (t32 (s .status))))
+    (ap (λ (m : Marks). entryStatus m Abort true false (s .status) (s .sctlr)) (p .whole .marks) ∙ ap₂ (entryStatus unmarked Abort true false) st sc)
+    (link-held s (injectionRow (DataAbort a)) (faultsAfter (DataAbort a) (s .faults) (s .ttbcr)) (subst (λ (n : ℕ). 20 < n) (sym (p .whole .registers)) (lit< tt))
+    ∙ ap (λ (c : Signed). sumOf (s .pc) (signed c)) (abort-correction a (t32 (s .status))))
     (ap (λ (b : Bool). (cond b 0xFFFF_0000 (s .vbar) + 0x10) % 2 ^ 32) (ap (λ (w : ℕ). bitOf w 13) sc ∙ high))
 
 -- THE STARRED CASES, one list with one statement
 pub all-hold : AllHold starred
-unfolding readOf callOf Form.hasWord recordOf has lawful maskOf judgeOf ones isMode sound aligned entryStatus linkOf
+unfolding readOf callOf Form.hasWord recordOf has lawful maskOf judgeOf ones isMode sound aligned entryStatus sumOf
 all-hold = (
   λ e h. (_, taken-everywhere (record { 0 = 0x02000000 }) e h refl),
   (
@@ -117,7 +117,7 @@ all-hold = (
                             (
                               λ s a p st sc. aborted s a 0x10 0x42002000 p refl refl st sc,
                               (
-                                λ s a p st sc pc. aborted s a 0x10 0x42002000 p refl refl st sc .new-link ∙ ap (λ (n : ℕ). linkOf n (pos 8)) pc,
+                                λ s a p st sc pc. aborted s a 0x10 0x42002000 p refl refl st sc .new-link ∙ ap (λ (n : ℕ). sumOf n (pos 8)) pc,
                                 tt,
                               ),
                             ),

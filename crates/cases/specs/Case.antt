@@ -13,14 +13,15 @@ use Rattle.syndrome.specs.Reading.{readOf}
 use Rattle.syndrome.specs.declared.answer.Read.{Read}
 use Rattle.status.specs.Base.{unmarked}
 use Rattle.guest.specs.Inject.{injected}
-use Rattle.guest.specs.Link.{linkOf}
+use Rattle.signed.specs.Signed.{sumOf}
 use Rattle.guest.specs.Injection.{injectionRow}
-use Rattle.guest.specs.Tests.{aligned, writable, addressFits}
+use Rattle.exception.specs.Vector.{aligned}
+use Rattle.guest.specs.Tests.{writable, addressFits}
 use Rattle.guest.specs.declared.answer.Answer.the-variants.{Accepted}
 use Rattle.guest.specs.declared.injection.Injection.{Injection}
 use Rattle.guest.specs.declared.injection.Injection.the-variants.{UndefinedAt, DataAbort}
 use Rattle.guest.specs.declared.injection.Access.{Access}
-use Rattle.guest.specs.declared.state.Guest.{Guest}
+use Rattle.exception.specs.declared.state.Guest.{Guest}
 
 -- what reading answers: a record, some record, or a refusal by its number, mask and number of ones
 pub data Answers : Type 0 where
@@ -91,7 +92,7 @@ Holds (undefined-at before after) =
     → Leaves s UndefinedAt (after .status) (after .link) (after .pc)
 Holds (data-abort before after) =
     (s : Guest) (a : Access) → Passing s a → s .status ≡ before .status → s .sctlr ≡ before .sctlr
-    → Leaves s (DataAbort a) (after .status) (linkOf (s .pc) (pos 8)) (after .pc)
+    → Leaves s (DataAbort a) (after .status) (sumOf (s .pc) (pos 8)) (after .pc)
 Holds (data-abort-link before pc link) =
     (s : Guest) (a : Access) → Passing s a → s .status ≡ before .status → s .sctlr ≡ before .sctlr → s .pc ≡ pc
     → getD (injected s (DataAbort a) .state .regs) (injectionRow (DataAbort a) .link) 0 ≡ link

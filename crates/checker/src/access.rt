@@ -6,14 +6,14 @@ use super::state;
 use a32::Answer;
 use a32::Described;
 use a32_access::Access;
-use a32_access::Change;
+use signed::Signed;
 use std::num::wrapping_sub_u64;
 
 // A signed change modulo 2^64.
-fn signed(change: Change) -> u64 {
+fn change_word(change: Signed) -> u64 {
     match change {
-        Change::Plus(size) => size as u64,
-        Change::Minus(size) => wrapping_sub_u64(0, size as u64),
+        Signed::Plus(size) => size as u64,
+        Signed::Minus(size) => wrapping_sub_u64(0, size as u64),
     }
 }
 
@@ -21,7 +21,7 @@ fn signed(change: Change) -> u64 {
 fn put_access(out: &mut [u8], at: usize, a: Access, registers: [u32; 16]) -> usize {
     let f = a.fields;
     let change = a.change;
-    let numbers = [a.count as u64, a.address as u64, signed(change)];
+    let numbers = [a.count as u64, a.address as u64, change_word(change)];
     let taken = out::first(out, at, 0);
     let fields = fields::put(out, taken, f);
     let place = out::numbers(out, fields, &numbers);

@@ -10,9 +10,9 @@ use Rattle.bits.proofs.Arms.{told}
 use Rattle.bits.proofs.Deciding.{decide-relabel, decided-exactly, answer-is}
 use Rattle.record.specs.declared.kinds.DataAbort.{DataAbort}
 use Rattle.record.specs.declared.kinds.Record.{Record}
+use Rattle.record.specs.Class.{among}
 use Rattle.status.specs.Sound.{sound}
-use Rattle.guest.specs.declared.state.Guest.{Guest}
-use Rattle.guest.specs.Answer.{listed}
+use Rattle.exception.specs.declared.state.Guest.{Guest}
 use Rattle.device.specs.declared.access.Described.{Described}
 use Rattle.device.specs.declared.access.Described.the-variants.{Access, Nothing}
 use Rattle.device.specs.declared.access.Finished.{Finished}
@@ -67,8 +67,8 @@ promised s r value e =
     record { result = e; number = ap numberIn e ∙ number-decided s r value; mask = refl; count = refl }
 
 -- finishing an access answers 0, 5, 9 or 18
-pub number-listed : (s : Guest) (r : Record) → T (listed (decide (accessNumbers s r) 0) accessList)
-number-listed s r = answer-is (λ n. T (listed n accessList)) (accessNumbers s r) 0 (tt, (tt, (tt, tt))) tt
+pub number-listed : (s : Guest) (r : Record) → T (among accessList (decide (accessNumbers s r) 0))
+number-listed s r = answer-is (λ n. T (among accessList n)) (accessNumbers s r) 0 (tt, (tt, (tt, tt))) tt
 
 -- EACH REFUSAL EXACTLY: a number comes exactly when its test is the first that fails, and 0 exactly when none fails
 pub decided : (s : Guest) (r : Record) (value k : ℕ) → (numberIn (finished s r value) ≡ k) ↔ FirstFails k (accessNumbers s r)

@@ -12,9 +12,9 @@ use Rattle.record.specs.declared.kinds.Record.{Record}
 use Rattle.status.specs.Sound.{sound}
 use Rattle.status.specs.It.{itAdvanced}
 use Rattle.status.proofs.Advance.{sound-advanced}
-use Rattle.guest.specs.declared.state.Guest.{Guest}
-use Rattle.guest.specs.declared.state.FaultRegisters.{FaultRegisters}
-use Rattle.guest.specs.declared.state.Saved.{Saved}
+use Rattle.exception.specs.declared.state.Guest.{Guest}
+use Rattle.exception.specs.declared.state.FaultRegisters.{FaultRegisters}
+use Rattle.exception.specs.declared.state.Saved.{Saved}
 use Rattle.device.specs.declared.access.Described.{Described}
 use Rattle.device.specs.declared.access.Described.the-variants.{Access, Nothing}
 use Rattle.device.specs.declared.access.Finished.{Finished}

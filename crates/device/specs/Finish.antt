@@ -10,8 +10,8 @@ use Rattle.record.specs.declared.kinds.Record.{Record}
 use Rattle.rule.specs.Has.{editionsOf}
 use Rattle.status.specs.Sound.{sound}
 use Rattle.status.specs.It.{itAdvanced}
-use Rattle.guest.specs.declared.state.Guest.{Guest}
-use Rattle.guest.specs.State.{registerIn, withRegister, changed}
+use Rattle.exception.specs.declared.state.Guest.{Guest}
+use Rattle.exception.specs.State.{registerIn, withRegister, changed}
 use Rattle.device.specs.declared.answer.Answer.{Answer}
 use Rattle.device.specs.declared.answer.Answer.the-variants.{Loaded, Stored, NoEdition, UnsoundStatus, NotDescribed}
 use Rattle.device.specs.declared.access.Described.{Described}

@@ -3,7 +3,7 @@ use mathlib.Core.Path.{_≡_}
 use Prim.Native.Nat.{ℕ}
 use Rattle.bits.specs.Decide.{decide}
 use Rattle.record.specs.declared.kinds.Record.{Record}
-use Rattle.guest.specs.declared.state.Guest.{Guest}
+use Rattle.exception.specs.declared.state.Guest.{Guest}
 use Rattle.device.specs.declared.access.Finished.{Finished}
 use Rattle.device.specs.Answer.{accessNumber, accessMask, accessCount}
 use Rattle.device.specs.Finish.{accessNumbers, finished}

@@ -2,19 +2,17 @@
 use mathlib.Core.Path.{_≡_}
 use mathlib.Core.Bool.{true}
 use Rattle.status.specs.Sound.{sound}
-use Rattle.status.proofs.Again.{sound-again}
-use Rattle.guest.specs.declared.state.Guest.{Guest}
+use Rattle.exception.specs.declared.state.Guest.{Guest}
+use Rattle.exception.specs.Vector.{aligned}
+use Rattle.exception.proofs.Again.{entered-again}
 use Rattle.guest.specs.declared.answer.Answer.the-variants.{Accepted}
 use Rattle.guest.specs.declared.injection.Injection.{Injection}
 use Rattle.guest.specs.Injection.{injectionRow}
-use Rattle.guest.specs.Entry.{entered}
-use Rattle.guest.specs.Tests.{aligned}
-use Rattle.guest.specs.Inject.{guestAfter, injectionAnswer}
+use Rattle.guest.specs.Inject.{faultsAfter, guestAfter, injectionAnswer}
 use Rattle.guest.proofs.Answers.{accepted-exactly}
 
 pub again : (s : Guest) (i : Injection) → injectionAnswer s i ≡ Accepted
     → (sound (guestAfter s i .marks) (guestAfter s i .status) ≡ true) × (aligned (guestAfter s i .vbar) ≡ true)
-unfolding entered
 again s i e =
     let p = accepted-exactly s i .0 e in
-    (sound-again (s .marks) (injectionRow i .mode) (injectionRow i .a) (s .status) (s .sctlr) (p .status), p .vbar)
+    entered-again s (injectionRow i) (faultsAfter i (s .faults) (s .ttbcr)) (p .status) (p .vbar)

@@ -7,13 +7,14 @@ use lib.Dec.{T, eqb}
 use Rattle.bits.specs.Decide.{decide, FirstFails}
 use Rattle.bits.proofs.Deciding.{decide-relabel, all-pass, decided-exactly, answer-is}
 use Rattle.status.specs.Sound.{sound}
-use Rattle.guest.specs.declared.state.Guest.{Guest}
+use Rattle.exception.specs.declared.state.Guest.{Guest}
+use Rattle.exception.specs.Vector.{aligned}
 use Rattle.guest.specs.declared.answer.Answer.{Answer}
 use Rattle.guest.specs.declared.answer.Answer.the-variants.{Accepted, UnsoundStatus, UnalignedVbar, UnwritableFault, WideAddress}
 use Rattle.guest.specs.declared.injection.Injection.{Injection}
 use Rattle.guest.specs.declared.injector.Injected.{Injected}
 use Rattle.guest.specs.Answer.{answerNumber, listed, injectionList}
-use Rattle.guest.specs.Tests.{aligned, writable, addressFits, injectionTests, injectionNumbers}
+use Rattle.guest.specs.Tests.{writable, addressFits, injectionTests, injectionNumbers}
 use Rattle.guest.specs.Inject.{guestAfter, injectionAnswer, resulting, injected}
 use Rattle.guest.specs.Promise.{Promise}
 

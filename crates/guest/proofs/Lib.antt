@@ -1,9 +1,6 @@
 -- Lemmas that several proofs cite, and from `Answers` on the laws of the definitions.
-pub mod Changed
 pub mod Reports
 pub mod Answers
 pub mod Vectors
-pub mod Links
-pub mod Registers
 pub mod Again
 pub mod Unmarked

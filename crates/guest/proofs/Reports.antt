@@ -10,8 +10,9 @@ use Rattle.status.specs.Sound.{sound}
 use Rattle.fault.specs.declared.Encoding.{Encoding}
 use Rattle.fault.specs.declared.Encoding.the-variants.{Code, Unwritable}
 use Rattle.fault.specs.Fault.{ifsrWord, dfsrWord, isCode}
-use Rattle.guest.specs.declared.state.FaultRegisters.{FaultRegisters}
-use Rattle.guest.specs.declared.state.Guest.{Guest}
+use Rattle.exception.specs.declared.state.FaultRegisters.{FaultRegisters}
+use Rattle.exception.specs.declared.state.Guest.{Guest}
+use Rattle.exception.specs.Vector.{aligned}
 use Rattle.guest.specs.declared.answer.Answer.{Answer}
 use Rattle.guest.specs.declared.answer.Answer.the-variants.{Accepted, UnsoundStatus, UnalignedVbar, UnwritableFault, WideAddress}
 use Rattle.guest.specs.declared.injection.Injection.{Injection}
@@ -19,7 +20,7 @@ use Rattle.guest.specs.declared.injection.Injection.the-variants.{Undefi
 use Rattle.guest.specs.declared.injector.Injected.{Injected}
 use Rattle.guest.specs.declared.report.Report.{Report}
 use Rattle.guest.specs.declared.report.Report.the-variants.{Registers, NoStatus, NoAddress}
-use Rattle.guest.specs.Tests.{aligned, writable, addressFits}
+use Rattle.guest.specs.Tests.{writable, addressFits}
 use Rattle.guest.specs.Inject.{codeIn, fetchWrites, accessWrites, faultsAfter, guestAfter, injectionAnswer, resulting, injected}
 use Rattle.guest.specs.Inner.{reportBy, reportOf}
 

@@ -6,8 +6,8 @@ use Rattle.bits.specs.Decide.{decide}
 use Rattle.fault.specs.declared.Encoding.{Encoding}
 use Rattle.fault.specs.declared.Encoding.the-variants.{Code, Unwritable}
 use Rattle.fault.specs.Fault.{ifsrWord, dfsrWord}
-use Rattle.guest.specs.declared.state.FaultRegisters.{FaultRegisters}
-use Rattle.guest.specs.declared.state.Guest.{Guest}
+use Rattle.exception.specs.declared.state.FaultRegisters.{FaultRegisters}
+use Rattle.exception.specs.declared.state.Guest.{Guest}
 use Rattle.guest.specs.declared.answer.Answer.{Answer}
 use Rattle.guest.specs.declared.answer.Answer.the-variants.{Accepted}
 use Rattle.guest.specs.declared.injection.Injection.{Injection}
@@ -15,7 +15,7 @@ use Rattle.guest.specs.declared.injection.Injection.the-variants.{Undefi
 use Rattle.guest.specs.declared.injector.Injected.{Injected}
 use Rattle.guest.specs.Answer.{answerNumber}
 use Rattle.guest.specs.Injection.{injectionRow}
-use Rattle.guest.specs.Entry.{entered}
+use Rattle.exception.specs.Entry.{entered}
 use Rattle.guest.specs.Tests.{injectionTests}
 
 -- a prefetch abort writes IFSR and IFAR, a data abort DFSR and DFAR

@@ -3,15 +3,15 @@ use Prim.Native.Nat.{ℕ}
 use mathlib.Core.Bool.{Bool, true, false}
 use Rattle.status.specs.declared.Mode.{Mode}
 use Rattle.status.specs.declared.Mode.the-variants.{Supervisor, Abort, Undefined}
-use Rattle.guest.specs.declared.link.Correction.{Correction}
-use Rattle.guest.specs.declared.link.Correction.the-variants.{Plus, Minus}
-use Rattle.guest.specs.declared.injection.Row.{Row}
+use Rattle.signed.specs.declared.Signed.{Signed}
+use Rattle.signed.specs.declared.Signed.the-variants.{Plus, Minus}
+use Rattle.exception.specs.declared.entry.Row.{Row}
 use Rattle.guest.specs.declared.injection.Injection.{Injection}
 use Rattle.guest.specs.declared.injection.Injection.the-variants.{UndefinedAt, UndefinedAfter, SupervisorCall, PrefetchAbort, DataAbort}
 
--- the mode, the vector, the link register, whether A is set, and the correction to PC in A32 and in T32
-abbrev row : Mode → ℕ → ℕ → Bool → Correction → Correction → Row
-row mode vector link a a32 t32 = record { mode = mode; vector = vector; link = link; a = a; a32 = a32; t32 = t32 }
+-- the mode, the vector, the link register, whether A is set, and the correction to PC in A32 and in T32; F is kept
+abbrev row : Mode → ℕ → ℕ → Bool → Signed → Signed → Row
+row mode vector link a a32 t32 = record { mode = mode; vector = vector; link = link; a = a; f = false; a32 = a32; t32 = t32 }
 
 abbrev pub injectionRow : Injection → Row
 injectionRow UndefinedAt = row Undefined 0x04 22 false (Plus 4) (Plus 2)

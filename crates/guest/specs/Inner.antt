@@ -5,7 +5,7 @@ use lib.Dec.{ltb}
 use Rattle.fault.specs.declared.Encoding.{Encoding}
 use Rattle.fault.specs.declared.Encoding.the-variants.{Code, Unwritable}
 use Rattle.fault.specs.Fault.{ifsrWord, dfsrWord}
-use Rattle.guest.specs.declared.state.FaultRegisters.{FaultRegisters}
+use Rattle.exception.specs.declared.state.FaultRegisters.{FaultRegisters}
 use Rattle.guest.specs.declared.injection.Fetch.{Fetch}
 use Rattle.guest.specs.declared.injection.Access.{Access}
 use Rattle.guest.specs.declared.injection.Injection.{Injection}

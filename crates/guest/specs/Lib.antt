@@ -1,9 +1,6 @@
 -- What the contracts of `guest` say, by document 01's 'Guest state and the five injections'. `Inner` is for the proofs alone.
 pub mod Answer
-pub mod State
-pub mod Link
 pub mod Injection
-pub mod Entry
 pub mod Tests
 pub mod Inject
 pub mod Promise

@@ -2,7 +2,7 @@
 -- and the answer's number, mask and count.
 use mathlib.Core.Path.{_≡_}
 use Rattle.bits.specs.Decide.{decide}
-use Rattle.guest.specs.declared.state.Guest.{Guest}
+use Rattle.exception.specs.declared.state.Guest.{Guest}
 use Rattle.guest.specs.declared.injection.Injection.{Injection}
 use Rattle.guest.specs.declared.injector.Injected.{Injected}
 use Rattle.guest.specs.Answer.{answerNumber, answerMask, answerCount}

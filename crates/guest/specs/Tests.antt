@@ -2,20 +2,16 @@
 use Prim.Native.Nat.{ℕ, _^_}
 use mathlib.Core.Bool.{Bool, true}
 use mathlib.Core.List.{List, [], _∷_}
-use lib.Dec.{eqb, ltb}
-use Rattle.bits.specs.Field.{fieldOf}
+use lib.Dec.{ltb}
 use Rattle.bits.specs.Decide.{Test, needs}
 use Rattle.status.specs.Sound.{sound}
 use Rattle.fault.specs.Fault.{ifsrWord, dfsrWord, isCode}
-use Rattle.guest.specs.declared.state.Guest.{Guest}
+use Rattle.exception.specs.declared.state.Guest.{Guest}
+use Rattle.exception.specs.Vector.{aligned}
 use Rattle.guest.specs.declared.answer.Answer.{Answer}
 use Rattle.guest.specs.declared.answer.Answer.the-variants.{UnsoundStatus, UnalignedVbar, UnwritableFault, WideAddress}
 use Rattle.guest.specs.declared.injection.Injection.{Injection}
 use Rattle.guest.specs.declared.injection.Injection.the-variants.{UndefinedAt, UndefinedAfter, SupervisorCall, PrefetchAbort, DataAbort}
-
--- 10: VBAR bits 4:0 are zero
-unfoldable pub aligned : ℕ → Bool
-aligned vbar = eqb (fieldOf vbar 4 0) 0
 
 -- 11: an abort's fault can be written in its register, in the format that TTBCR chooses
 abbrev pub writable : Injection → ℕ → Bool

@@ -1,8 +1,9 @@
 // The five injections, and document 01's table of them.
 ghost use mathlib.Core.Path.{_≡_};
 ghost use Rattle.guest.specs.Injection.{injectionRow};
-use crate::link::Correction;
+use exception::Row;
 use fault::Fault;
+use signed::Signed;
 use status::Mode;
 
 // The instruction fetch that a prefetch abort reports.
@@ -29,17 +30,7 @@ pub enum Injection {
     DataAbort(Access),
 }
 
-// A row of the table: the mode that is entered, the offset in the vector table, the mode's LR in the AArch64 numbering,
-// whether A is set (else it is kept), and what is added to PC for the link, in either instruction set.
-pub(crate) struct Row {
-    pub mode: Mode,
-    pub vector: u32,
-    pub link: usize,
-    pub a: bool,
-    pub a32: Correction,
-    pub t32: Correction,
-}
-
+// The injection's row of the table. F is kept in each.
 pub(crate) fn injection_row(what: Injection) -> Row
     ensures { λ r. ⌜ r ≡ injectionRow what ⌝ }
 {
@@ -49,40 +40,45 @@ pub(crate) fn injection_row(what: Injection) -> Row
             vector: 0x04,
             link: 22,
             a: false,
-            a32: Correction::Plus(4),
-            t32: Correction::Plus(2),
+            f: false,
+            a32: Signed::Plus(4),
+            t32: Signed::Plus(2),
         },
         Injection::UndefinedAfter => Row {
             mode: Mode::Undefined,
             vector: 0x04,
             link: 22,
             a: false,
-            a32: Correction::Plus(0),
-            t32: Correction::Minus(2),
+            f: false,
+            a32: Signed::Plus(0),
+            t32: Signed::Minus(2),
         },
         Injection::SupervisorCall => Row {
             mode: Mode::Supervisor,
             vector: 0x08,
             link: 18,
             a: false,
-            a32: Correction::Plus(0),
-            t32: Correction::Plus(0),
+            f: false,
+            a32: Signed::Plus(0),
+            t32: Signed::Plus(0),
         },
         Injection::PrefetchAbort(_) => Row {
             mode: Mode::Abort,
             vector: 0x0C,
             link: 20,
             a: true,
-            a32: Correction::Plus(4),
-            t32: Correction::Plus(4),
+            f: false,
+            a32: Signed::Plus(4),
+            t32: Signed::Plus(4),
         },
         Injection::DataAbort(_) => Row {
             mode: Mode::Abort,
             vector: 0x10,
             link: 20,
             a: true,
-            a32: Correction::Plus(8),
-            t32: Correction::Plus(8),
+            f: false,
+            a32: Signed::Plus(8),
+            t32: Signed::Plus(8),
         },
     }
 }

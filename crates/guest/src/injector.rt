@@ -1,13 +1,13 @@
 // An injection into a guest's state, by value.
 ghost use Rattle.guest.specs.Promise.{Promise};
 use crate::answer::Answer;
-use crate::entry::aligned;
-use crate::entry::enter;
 use crate::injection::Injection;
 use crate::injection::injection_row;
 use crate::report::Report;
 use crate::report::report_of;
-use crate::state::Guest;
+use exception::Guest;
+use exception::aligned;
+use exception::enter;
 use status::sound;
 
 pub struct Injected {

@@ -4,7 +4,7 @@ ghost use Rattle.guest.specs.Inner.{fetchReport, accessReport, reportOf}
 use crate::injection::Access;
 use crate::injection::Fetch;
 use crate::injection::Injection;
-use crate::state::FaultRegisters;
+use exception::FaultRegisters;
 use fault::Encoding;
 use fault::dfsr_word;
 use fault::ifsr_word;

@@ -2,7 +2,7 @@
 ghost use Rattle.guest.specs.Promise.{Promise};
 ghost use Rattle.device.specs.Promise.{FinishPromise};
 use device::finish;
-use guest::Guest;
+use exception::Guest;
 use guest::Injection;
 use guest::inject;
 use record::Record;

@@ -5,7 +5,7 @@ use Prim.Native.Nat.{ℕ}
 use lib.Dec.{eqb}
 use Rattle.status.specs.declared.Marks.{Marks}
 use Rattle.status.specs.declared.Mode.{Mode}
-use Rattle.status.specs.declared.Mode.the-variants.{Supervisor, Abort, Undefined}
+use Rattle.status.specs.declared.Mode.the-variants.{Supervisor, Abort, Undefined, Fiq, Irq}
 use Rattle.bits.specs.Field.{fieldOf, bitOf}
 use Rattle.bits.proofs.Booleans.{and-left, and-right}
 use Rattle.status.specs.Mode.{isMode, modeNumber}
@@ -18,6 +18,8 @@ unfolding isMode
 entered-mode Supervisor = refl
 entered-mode Abort = refl
 entered-mode Undefined = refl
+entered-mode Fiq = refl
+entered-mode Irq = refl
 
 -- the tests of a sound word, one by one
 pub record Sound (marks : Marks) (w : ℕ) : Type 0 where
@@ -61,19 +63,19 @@ pan-kept marked old sctlr e = ap (λ (b : Bool). entryPan b old sctlr) e
 ssbs-kept : (marked : Bool) (old sctlr : ℕ) → marked ≡ false → entrySsbs marked old sctlr ≡ fieldOf old 23 23
 ssbs-kept marked old sctlr e = ap (λ (b : Bool). entrySsbs b old sctlr) e
 
-pub sound-again : (marks : Marks) (m : Mode) (a : Bool) (old sctlr : ℕ) → sound marks old ≡ true → sound marks (entryStatus marks m a old sctlr) ≡ true
-sound-again marks m a old sctlr e =
-    make-sound marks (entryStatus marks m a old sctlr)
+pub sound-again : (marks : Marks) (m : Mode) (a f : Bool) (old sctlr : ℕ) → sound marks old ≡ true → sound marks (entryStatus marks m a f old sctlr) ≡ true
+sound-again marks m a f old sctlr e =
+    make-sound marks (entryStatus marks m a f old sctlr)
     record {
-      mode = ap isMode (f .m4-0) ∙ entered-mode m;
-      clear = ap (λ (n : ℕ). not (eqb n 1)) (f .kept24) ∙ s .clear;
-      ssbs = still (marks .ssbs) (λ u. f .ssbs23 ∙ ssbs-kept (marks .ssbs) old sctlr u) (s .ssbs);
-      pan = still (marks .pan) (λ u. f .pan22 ∙ pan-kept (marks .pan) old sctlr u) (s .pan);
-      dit = still (marks .dit) (λ u. f .dit21) (s .dit);
+      mode = ap isMode (new .m4-0) ∙ entered-mode m;
+      clear = ap (λ (n : ℕ). not (eqb n 1)) (new .kept24) ∙ s .clear;
+      ssbs = still (marks .ssbs) (λ u. new .ssbs23 ∙ ssbs-kept (marks .ssbs) old sctlr u) (s .ssbs);
+      pan = still (marks .pan) (λ u. new .pan22 ∙ pan-kept (marks .pan) old sctlr u) (s .pan);
+      dit = still (marks .dit) (λ u. new .dit21) (s .dit);
     }
   where
-    f : Fields marks m a old sctlr (entryStatus marks m a old sctlr)
-    f = entry-fields marks m a old sctlr
+    new : Fields marks m a f old sctlr (entryStatus marks m a f old sctlr)
+    new = entry-fields marks m a f old sctlr
 
     s : Sound marks old
     s = is-sound marks old e

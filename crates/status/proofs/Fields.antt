@@ -5,11 +5,11 @@ use Prim.Native.Nat.{ℕ, _+_, _*_, _^_, _<_}
 use native.Mathlib.Omega.{arith}
 use Rattle.status.specs.declared.Marks.{Marks}
 use Rattle.status.specs.declared.Mode.{Mode}
-use Rattle.status.specs.declared.Mode.the-variants.{Supervisor, Abort, Undefined}
+use Rattle.status.specs.declared.Mode.the-variants.{Supervisor, Abort, Undefined, Fiq, Irq}
 use Rattle.bits.specs.Field.{fieldOf, bitOf}
 use Rattle.status.specs.Mode.{modeNumber}
 use Rattle.status.specs.Base.{entryA}
-use Rattle.status.specs.Entry.{entryPan, entrySsbs, entryStatus}
+use Rattle.status.specs.Entry.{entryF, entryPan, entrySsbs, entryStatus}
 
 -- one of two bits
 one-bit : (b : Bool) {x y : ℕ} → x < 2 → y < 2 → cond b x y < 2
@@ -18,6 +18,9 @@ one-bit false hx hy = hy
 
 pub a-bit : (set : Bool) (old : ℕ) → entryA set old < 2
 a-bit set old = one-bit set (omega arith) (omega arith)
+
+pub f-bit : (set : Bool) (old : ℕ) → entryF set old < 2
+f-bit set old = one-bit set (omega arith) (omega arith)
 
 pub pan-bit : (marked : Bool) (old sctlr : ℕ) → entryPan marked old sctlr < 2
 pan-bit marked old sctlr = one-bit (marked && not (bitOf sctlr 23)) (omega arith) (omega arith)
@@ -29,11 +32,13 @@ pub mode-bits : (m : Mode) → modeNumber m < 32
 mode-bits Supervisor = omega arith
 mode-bits Abort = omega arith
 mode-bits Undefined = omega arith
+mode-bits Fiq = omega arith
+mode-bits Irq = omega arith
 
-pub record Fields (marks : Marks) (m : Mode) (a : Bool) (old sctlr new : ℕ) : Type 0 where
+pub record Fields (marks : Marks) (m : Mode) (a f : Bool) (old sctlr new : ℕ) : Type 0 where
   pub m4-0 : fieldOf new 4 0 ≡ modeNumber m
   pub t5 : fieldOf new 5 5 ≡ fieldOf sctlr 30 30
-  pub f6 : fieldOf new 6 6 ≡ fieldOf old 6 6
+  pub f6 : fieldOf new 6 6 ≡ entryF f old
   pub i7 : fieldOf new 7 7 ≡ 1
   pub a8 : fieldOf new 8 8 ≡ entryA a old
   pub e9 : fieldOf new 9 9 ≡ fieldOf sctlr 25 25
@@ -57,11 +62,11 @@ module _ (n j s p d g e a f t m : ℕ) (hn : n < 32) (hj : j < 2) (hs : s < 2) (
       × (fieldOf word 26 25 ≡ 0) × (fieldOf word 31 27 ≡ n)
   digits = (omega arith, omega arith, omega arith, omega arith, omega arith, omega arith, omega arith, omega arith, omega arith, omega arith, omega arith, omega arith, omega arith, omega arith, omega arith)
 
-pub entry-fields : (marks : Marks) (m : Mode) (a : Bool) (old sctlr : ℕ) → Fields marks m a old sctlr (entryStatus marks m a old sctlr)
+pub entry-fields : (marks : Marks) (m : Mode) (a f : Bool) (old sctlr : ℕ) → Fields marks m a f old sctlr (entryStatus marks m a f old sctlr)
 unfolding entryStatus
-entry-fields marks m a old sctlr =
-    let d = digits (fieldOf old 31 27) (fieldOf old 24 24) (entrySsbs (marks .ssbs) old sctlr) (entryPan (marks .pan) old sctlr) (fieldOf old 21 21) (fieldOf old 19 16) (fieldOf sctlr 25 25) (entryA a old) (fieldOf old 6 6) (fieldOf sctlr 30 30) (modeNumber m)
-    (omega arith) (omega arith) (ssbs-bit (marks .ssbs) old sctlr) (pan-bit (marks .pan) old sctlr) (omega arith) (omega arith) (omega arith) (a-bit a old) (omega arith) (omega arith) (mode-bits m) in
+entry-fields marks m a f old sctlr =
+    let d = digits (fieldOf old 31 27) (fieldOf old 24 24) (entrySsbs (marks .ssbs) old sctlr) (entryPan (marks .pan) old sctlr) (fieldOf old 21 21) (fieldOf old 19 16) (fieldOf sctlr 25 25) (entryA a old) (entryF f old) (fieldOf sctlr 30 30) (modeNumber m)
+    (omega arith) (omega arith) (ssbs-bit (marks .ssbs) old sctlr) (pan-bit (marks .pan) old sctlr) (omega arith) (omega arith) (omega arith) (a-bit a old) (f-bit f old) (omega arith) (mode-bits m) in
     record {
       m4-0 = d .0;
       t5 = d .1;

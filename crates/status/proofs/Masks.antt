@@ -1,7 +1,8 @@
 -- What the code's masks compute: `w & MASK` is a field of w in its place, and fields joined by `|` from the top down add up.
 use mathlib.Core.Path.{_≡_, sym, ap, ap₂, subst, _∙_}
+use mathlib.Core.Bool.{Bool, true, false, cond}
 use Prim.Native.Nat.{ℕ, zero, suc, _+_, _-_, _*_, _/_, _%_, _^_, _<_}
-use native.Mathlib.Nat.{zero-mul, mul-pos, zero-lt-suc, not-suc-le-zero, div-one, add-zero}
+use native.Mathlib.Nat.{zero-mul, one-mul, mul-pos, zero-lt-suc, not-suc-le-zero, div-one, add-zero}
 use native.Mathlib.Omega.{arith}
 use lib.Dec.{eqb}
 use lib.Bits.{bitAnd, bitOr, and-mask, and-high, or-shifted}
@@ -28,3 +29,11 @@ or-next k {s = s} {v = v} p q m h =
   where
     e : s ≡ s / 2 ^ k * 2 ^ k
     e = sym (split s k) ∙ ap (λ (r : ℕ). s / 2 ^ k * 2 ^ k + r) m ∙ add-zero (s / 2 ^ k * 2 ^ k)
+
+-- one bit in its place, set or kept, as the arm that was taken says
+pub set-or-kept : (k old : ℕ) {set b : Bool} → set ≡ b → cond b (2 ^ k) (bitAnd old (2 ^ (1 + k) - 2 ^ k)) ≡ cond set 1 (old / 2 ^ k % 2) * 2 ^ k
+set-or-kept k old {b = b} e = arm b ∙ sym (ap (λ (x : Bool). cond x 1 (old / 2 ^ k % 2) * 2 ^ k) e)
+  where
+    arm : (b : Bool) → cond b (2 ^ k) (bitAnd old (2 ^ (1 + k) - 2 ^ k)) ≡ cond b 1 (old / 2 ^ k % 2) * 2 ^ k
+    arm true = sym (one-mul (2 ^ k))
+    arm false = and-high old 1 k

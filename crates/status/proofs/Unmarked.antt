@@ -1,4 +1,4 @@
--- A GUEST WITH NO MARK behaves as before request C-15: sound words and new status words are those of the base.
+-- A GUEST WITH NO MARK behaves as before request C-15: sound words, and new status words with F kept, are those of the base.
 use mathlib.Core.Path.{_≡_, refl, ap, ap₂, _∙_}
 use mathlib.Core.Bool.{Bool, true, false, not, _&&_}
 use Prim.Native.Nat.{ℕ, _+_, _*_, _/_, _%_, _^_, _<_}
@@ -65,7 +65,7 @@ four old =
 beside : (n j s p d : ℕ) {x : ℕ} → j + s + p + d ≡ x → n + j + s + p + d ≡ n + x
 beside n j s p d e = omega arith
 
-pub unmarked-entry : (m : Mode) (a : Bool) (old sctlr : ℕ) → entryStatus unmarked m a old sctlr ≡ baseEntryStatus m a old sctlr
+pub unmarked-entry : (m : Mode) (a : Bool) (old sctlr : ℕ) → entryStatus unmarked m a false old sctlr ≡ baseEntryStatus m a old sctlr
 unfolding entryStatus baseEntryStatus
 unmarked-entry m a old sctlr =
     ap (λ (n : ℕ). n + kept old 19 16 + fieldOf sctlr 25 25 * 2 ^ 9 + entryA a old * 2 ^ 8 + 1 * 2 ^ 7 + kept old 6 6 + fieldOf sctlr 30 30 * 2 ^ 5 + modeNumber m)

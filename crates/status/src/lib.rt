@@ -5,17 +5,19 @@ ghost use Prim.Native.Nat.{_*_, _^_};
 ghost use Rattle.status.specs.Mode.{isMode, modeNumber};
 ghost use Rattle.status.specs.Sound.{allowed, sound};
 ghost use Rattle.status.specs.Base.{entryA};
-ghost use Rattle.status.specs.Entry.{t32, entryPan, entrySsbs, entryStatus};
+ghost use Rattle.status.specs.Entry.{t32, entryF, entryPan, entrySsbs, entryStatus};
 ghost use Rattle.status.specs.It.{itOf, itAdvance, withIt, itAdvanced};
 ghost use Rattle.status.specs.Spsr.{spsrStatus, SpsrPromise};
 ghost use Rattle.status.specs.Register.{byMode, numberIn, heldIn};
 use bits::bit;
 
-// The modes that an injection enters.
+// The modes that an exception enters.
 pub enum Mode {
     Supervisor,
     Abort,
     Undefined,
+    Fiq,
+    Irq,
 }
 
 // Where a register of the guest is held: its AArch64 number.
@@ -103,6 +105,8 @@ fn mode_number(mode: Mode) -> u32
         Mode::Supervisor => 0x13,
         Mode::Abort => 0x17,
         Mode::Undefined => 0x1B,
+        Mode::Fiq => 0x11,
+        Mode::Irq => 0x12,
     }
 }
 
@@ -111,6 +115,13 @@ fn entry_a(set: bool, old: u32) -> u32
     ensures { λ r. ⌜ r ≡ entryA set old * 2 ^ 8 ⌝ }
 {
     if set { A } else { old & A }
+}
+
+// F, set or kept.
+fn entry_f(set: bool, old: u32) -> u32
+    ensures { λ r. ⌜ r ≡ entryF set old * 2 ^ 6 ⌝ }
+{
+    if set { F } else { old & F }
 }
 
 // PAN, which SCTLR.SPAN, bit 23, leaves as it was.
@@ -134,9 +145,9 @@ fn entry_ssbs(marked: bool, old: u32, sctlr: u32) -> u32
     }
 }
 
-// The status word at the handler's first instruction. IT and IL are 0.
-pub fn entry_status(marks: Marks, mode: Mode, a: bool, old: u32, sctlr: u32) -> u32
-    ensures { λ r. ⌜ r ≡ entryStatus marks mode a old sctlr ⌝ }
+// The status word at the handler's first instruction: A and F are set, or kept. IT and IL are 0.
+pub fn entry_status(marks: Marks, mode: Mode, a: bool, f: bool, old: u32, sctlr: u32) -> u32
+    ensures { λ r. ⌜ r ≡ entryStatus marks mode a f old sctlr ⌝ }
 {
     (old & FLAGS)
         | (old & J)
@@ -147,7 +158,7 @@ pub fn entry_status(marks: Marks, mode: Mode, a: bool, old: u32, sctlr: u32) -> 
         | ((sctlr & EE) >> 16)
         | entry_a(a, old)
         | I
-        | (old & F)
+        | entry_f(f, old)
         | ((sctlr & TE) >> 25)
         | mode_number(mode)
 }

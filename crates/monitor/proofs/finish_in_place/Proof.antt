@@ -39,12 +39,12 @@ use denote.Triple.Table.{entered, cited}
 use denote.Triple.Walked.{says, Stays, stay-ref, stay-none, walkOf, AllGo, goes-none, goes-ref, Walks, ends-at, walked, walk-meets}
 use denote.Triple.Clauses.{ensured, lasts}
 use denote.Exit.{yes}
-use Rattle.guest.specs.declared.state.Guest.{Guest}
+use Rattle.exception.specs.declared.state.Guest.{Guest}
 use Rattle.record.specs.declared.kinds.Record.{Record}
 use Rattle.device.specs.declared.access.Finished.{Finished}
 use Rattle.device.specs.Promise.{FinishPromise}
-use Rattle.guest.proofs.state.Guest as G
-use Rattle.guest.proofs.state.Guest.Laws as G′
+use Rattle.exception.proofs.state.Guest as G
+use Rattle.exception.proofs.state.Guest.Laws as G′
 use Rattle.record.proofs.kinds.Record as J
 use Rattle.record.proofs.kinds.Record.Laws as J′
 use Rattle.device.proofs.access.Finished as I

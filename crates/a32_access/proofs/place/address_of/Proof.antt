@@ -1,11 +1,10 @@
--- `a32_access::place::address_of` meets its contract: the base is moved by the form's distance.
+-- `a32_access::place::address_of` meets its contract: the base plus the form's distance, added or subtracted.
 -- Assumes nothing.
 use borrow.Author.Needs.{needs}
-use mathlib.Core.Path.{_∙_, ap₂}
-use mathlib.Core.Bool.{Bool}
-use Prim.Native.Nat.{ℕ}
-use Rattle.guest.specs.Link.{linkOf}
-use Rattle.a32_access.specs.Place.{signed}
+use mathlib.Core.Path.{_∙_, ap, ap₂}
+use Rattle.signed.specs.declared.Signed.{Signed}
+use Rattle.signed.specs.Signed.{signed, sumOf}
+use Rattle.a32_access.specs.Place.{signedBy}
 use Rattle.a32_access.proofs.place.address_of.Statement.{statement}
 use Rattle.a32_access.proofs.place.address_of.Tie as tie
 
@@ -15,13 +14,19 @@ up-requires c κs = search needs
 distance-requires : tie.Need-distance-requires
 distance-requires c κs = search needs
 
-moved-requires : tie.Need-moved-requires
-moved-requires c κs = search needs
+signed-by-requires : tie.Need-signed-by-requires
+signed-by-requires c κs = search needs
+
+sum-requires : tie.Need-sum-requires
+sum-requires c κs = search needs
 
 returns : tie.Need-returns
 returns c =
-    let a = c .before .before .before .args in
-    c .moved .ensures ∙ ap₂ (λ (u : Bool) (n : ℕ). linkOf (a .base) (signed u n)) (c .before .before .up .ensures) (c .before .distance .ensures)
+    let a = c .before .before .before .before .args in
+    c .sum .ensures
+    ∙ ap (λ (n : Signed). sumOf (a .base) (signed n))
+    (c .before .signed-by .ensures ∙ ap₂ signedBy (c .before .before .before .up .ensures) (c .before .before .distance .ensures))
 
 pub address-of-spec : {M : Type 1} → statement M
-address-of-spec = tie.close (tie.spec up-requires distance-requires moved-requires returns)
+address-of-spec =
+    tie.close (tie.spec up-requires distance-requires signed-by-requires sum-requires returns)

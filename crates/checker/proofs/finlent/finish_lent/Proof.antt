@@ -39,13 +39,13 @@ use denote.Triple.Table.{entered, cited}
 use denote.Triple.Walked.{says, Stays, stay-none, walkOf, AllGo, goes-none, Walks, ends-at, walked, walk-meets}
 use denote.Exit.{yes}
 use borrow.Table.OneValue.{part-in-at, part-out-at}
-use Rattle.guest.specs.declared.state.Guest.{Guest}
+use Rattle.exception.specs.declared.state.Guest.{Guest}
 use Rattle.record.specs.declared.kinds.Record.{Record}
 use Rattle.device.specs.declared.access.Finished.{Finished}
 use Rattle.device.specs.declared.answer.Answer.{Answer}
 use Rattle.device.specs.Promise.{FinishPromise}
-use Rattle.guest.proofs.state.Guest as G
-use Rattle.guest.proofs.state.Guest.Laws as G′
+use Rattle.exception.proofs.state.Guest as G
+use Rattle.exception.proofs.state.Guest.Laws as G′
 use Rattle.record.proofs.kinds.Record as J
 use Rattle.record.proofs.kinds.Record.Laws as J′
 use Rattle.device.proofs.access.Finished as I

@@ -6,8 +6,8 @@ use Prim.Native.Nat.{ℕ}
 use borrow.Author.Needs.{needs}
 use Rattle.bits.proofs.Arms.{told}
 use Rattle.record.specs.declared.kinds.DataAbort.{DataAbort}
-use Rattle.guest.specs.declared.state.Guest.{Guest}
-use Rattle.guest.specs.State.{registerIn, withRegister}
+use Rattle.exception.specs.declared.state.Guest.{Guest}
+use Rattle.exception.specs.State.{registerIn, withRegister}
 use Rattle.device.specs.declared.answer.Answer.the-variants.{Loaded, Stored}
 use Rattle.device.specs.declared.access.Finished.{Finished}
 use Rattle.device.specs.Data.{transferred, extended}

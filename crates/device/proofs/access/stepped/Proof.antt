@@ -5,9 +5,9 @@ use mathlib.Core.List.{List}
 use Prim.Native.Nat.{ℕ, _+_, _%_, _^_}
 use borrow.Author.Needs.{needs}
 use Rattle.status.specs.It.{itAdvanced}
-use Rattle.guest.specs.declared.state.Guest.{Guest}
-use Rattle.guest.specs.State.{changed}
-use Rattle.guest.proofs.Changed.{changed-same}
+use Rattle.exception.specs.declared.state.Guest.{Guest}
+use Rattle.exception.specs.State.{changed}
+use Rattle.exception.proofs.Changed.{changed-same}
 use Rattle.device.specs.Finish.{bytesOf, stepped}
 use Rattle.device.proofs.access.stepped.Statement.{statement}
 use Rattle.device.proofs.access.stepped.Tie as tie

@@ -6,15 +6,14 @@ use borrow.Author.Tests.{not-true, not-false}
 use Rattle.status.specs.Sound.{sound}
 use Rattle.guest.specs.declared.answer.Answer.the-variants.{Accepted}
 use Rattle.guest.specs.declared.injection.Injection.{Injection}
-use Rattle.guest.specs.declared.injection.Row.{Row}
+use Rattle.exception.specs.declared.entry.Row.{Row}
 use Rattle.guest.specs.declared.injector.Injected.{Injected}
 use Rattle.guest.specs.declared.report.Report.{Report}
 use Rattle.guest.specs.declared.report.Report.the-variants.{Registers}
-use Rattle.guest.specs.declared.state.FaultRegisters.{FaultRegisters}
-use Rattle.guest.specs.declared.state.Guest.{Guest}
+use Rattle.exception.specs.declared.state.FaultRegisters.{FaultRegisters}
+use Rattle.exception.specs.declared.state.Guest.{Guest}
 use Rattle.guest.specs.Injection.{injectionRow}
-use Rattle.guest.specs.Entry.{entered}
-use Rattle.guest.specs.Tests.{aligned}
+use Rattle.exception.specs.Entry.{entered}
 use Rattle.guest.specs.Inject.{injectionAnswer, injected}
 use Rattle.guest.specs.Inner.{reportOf}
 use Rattle.guest.proofs.Answers.{promised}

@@ -4,7 +4,7 @@ use Prim.Native.Nat.{ℕ}
 use borrow.Author.Needs.{needs}
 use Rattle.bits.proofs.Arms.{at-arm, told}
 use Rattle.guest.specs.declared.injection.Injection.{Injection}
-use Rattle.guest.specs.declared.state.FaultRegisters.{FaultRegisters}
+use Rattle.exception.specs.declared.state.FaultRegisters.{FaultRegisters}
 use Rattle.guest.specs.declared.report.Report.{Report}
 use Rattle.guest.specs.Inner.{reportOf}
 use Rattle.guest.proofs.report.report_of.Statement.{statement}
