@@ -1,17 +1,100 @@
--- The numbers that reading may answer, and what goes with them.
+-- What reading answers, exactly: each number and each section, by the first test that fails, and what goes with them.
 -- Assumes nothing.
-use mathlib.Core.Logic.{_⊎_, inl, inr}
-use mathlib.Core.Path.{_≡_, refl}
-use mathlib.Core.Bool.{Bool, true, false}
-use mathlib.Core.List.{List}
-use Prim.Native.Nat.{ℕ, _≤_}
+use mathlib.Core.Logic.{_⊎_, inl, inr, _↔_}
+use mathlib.Core.Path.{_≡_, refl, sym, ap, subst, _∙_}
+use mathlib.Core.Bool.{true, cond}
+use mathlib.Core.List.{List, [], _∷_}
+use Prim.Native.Nat.{ℕ, zero, suc, _+_, _≤_, _<_}
 use native.Mathlib.Omega.{arith}
 use lib.Dec.{leb, eqb, lit≤}
 use lib.ListN.{length}
-use Rattle.log.specs.Section.{restAfter, countAfter, wholeAfter}
-use Rattle.log.specs.Answer.{numberOf, sectionIn, goneIn, needs, readOf}
+use Rattle.bits.specs.Decide.{Test, needs, decide, FirstFails, FailsWith}
+use Rattle.bits.proofs.Deciding.{decide-relabel, decided-exactly, decided-with-exactly, answer-is}
+use Rattle.log.specs.Section.{wholeAfter}
+use Rattle.log.specs.Log.{goneThrough}
+use Rattle.log.specs.Answer.{numberOf, sectionIn, goneIn, testsOf, readTests, readNumbers, readSections, readOf, Reading}
 use Rattle.log.specs.declared.answer.Read.{Read}
 use Rattle.log.specs.declared.answer.Read.the-variants.{Accepted, TooLong, CutShort, LeftOver, Unequal}
+
+-- ---- the promise, by its equation alone
+
+pub read-number : (s : List ℕ) → numberOf (readOf s) ≡ decide (readNumbers s) 0
+unfolding readOf
+read-number s = decide-relabel numberOf (readTests s) (Accepted (goneThrough s))
+
+pub read-section : (s : List ℕ) → sectionIn (readOf s) ≡ decide (readSections s) 0
+unfolding readOf
+read-section s = decide-relabel sectionIn (readTests s) (Accepted (goneThrough s))
+
+-- what each answer says of the number gone through
+abbrev pub Gone : List ℕ → Read → Type 0
+Gone s a = goneIn a ≡ cond (eqb (numberOf a) 0) (goneThrough s) 0
+
+pub read-gone : (s : List ℕ) → Gone s (readOf s)
+unfolding readOf
+read-gone s =
+    answer-is (Gone s) (readTests s) (Accepted (goneThrough s)) (refl, (refl, (refl, (refl, (refl, (refl, (refl, tt))))))) refl
+
+pub promised : (s : List ℕ) {a : Read} → a ≡ readOf s → Reading s a
+promised s e =
+    subst (Reading s) (sym e)
+    record { answer = refl; number = read-number s; section = read-section s; gone = read-gone s }
+
+-- ---- EACH REFUSAL EXACTLY
+
+-- a number comes exactly when the first test that fails has it (13 is that of four), and 0 exactly when none fails
+pub read-refused-exactly : (s : List ℕ) (k : ℕ) → (numberOf (readOf s) ≡ k) ↔ FailsWith k (readNumbers s)
+read-refused-exactly s k =
+    let law = decided-with-exactly (readNumbers s) k in
+    (λ e. law .0 (sym (read-number s) ∙ e), λ f. read-number s ∙ law .1 f)
+
+-- where a test stands in the order, so that no two answers have one number: 13 by its section
+abbrev placeOf : Read → ℕ
+placeOf (Accepted gone) = 0
+placeOf TooLong = 5
+placeOf (CutShort section) = section
+placeOf LeftOver = 6
+placeOf Unequal = 7
+
+abbrev places : List ℕ → List (Test ℕ)
+places s = testsOf 5 (λ section. section) 6 7 s
+
+read-place : (s : List ℕ) → placeOf (readOf s) ≡ decide (places s) 0
+unfolding readOf
+read-place s = decide-relabel placeOf (readTests s) (Accepted (goneThrough s))
+
+first-at : (s : List ℕ) (k : ℕ) → placeOf (readOf s) ≡ k → FirstFails k (places s)
+first-at s k e = decided-exactly (places s) tt k .0 (sym (read-place s) ∙ e)
+
+at-first : (s : List ℕ) (k : ℕ) → FirstFails k (places s) → placeOf (readOf s) ≡ k
+at-first s k f = read-place s ∙ decided-exactly (places s) tt k .1 f
+
+cut-at : (a : Read) (n : ℕ) → 0 < n → n ≤ 4 → placeOf a ≡ n → a ≡ CutShort n
+cut-at (Accepted gone) n h k e = absurd (omega arith)
+cut-at TooLong n h k e = absurd (omega arith)
+cut-at (CutShort section) n h k e = ap CutShort e
+cut-at LeftOver n h k e = absurd (omega arith)
+cut-at Unequal n h k e = absurd (omega arith)
+
+-- the sections in their order, each with its number
+abbrev pub wholeTests : List ℕ → List (Test ℕ)
+wholeTests s = needs (wholeAfter s 0) 1 ∷ needs (wholeAfter s 1) 2 ∷ needs (wholeAfter s 2) 3 ∷ needs (wholeAfter s 3) 4 ∷ []
+
+-- 13 comes with a section exactly when the log is not too long and this section is the first that is not whole
+pub cut-short-exactly : (s : List ℕ) (n : ℕ) → 0 < n → n ≤ 4
+    → (readOf s ≡ CutShort n) ↔ ((leb (length s) 65536 ≡ true) × FirstFails n (wholeTests s))
+cut-short-exactly s zero h k = absurd (omega arith)
+cut-short-exactly s (suc zero) h k = (λ e. first-at s 1 (ap placeOf e), λ f. cut-at (readOf s) 1 h k (at-first s 1 f))
+cut-short-exactly s (suc (suc zero)) h k = (λ e. first-at s 2 (ap placeOf e), λ f. cut-at (readOf s) 2 h k (at-first s 2 f))
+cut-short-exactly s (suc (suc (suc zero))) h k = (λ e. first-at s 3 (ap placeOf e), λ f. cut-at (readOf s) 3 h k (at-first s 3 f))
+cut-short-exactly s (suc (suc (suc (suc zero)))) h k = (λ e. first-at s 4 (ap placeOf e), λ f. cut-at (readOf s) 4 h k (at-first s 4 f))
+cut-short-exactly s (suc (suc (suc (suc (suc n))))) h k = absurd (omega arith)
+
+-- an accepted log passes every test
+pub all-passed : (s : List ℕ) {gone : ℕ} → readOf s ≡ Accepted gone → FirstFails 0 (places s)
+all-passed s e = first-at s 0 (ap placeOf e)
+
+-- ---- what goes with a number
 
 -- reading answers 0 or 13 to 16
 pub read-numbers : (a : Read) → (numberOf a ≡ 0) ⊎ ((13 ≤ numberOf a) × (numberOf a ≤ 16))
@@ -37,23 +120,26 @@ refusals-went-nowhere LeftOver n = refl
 refusals-went-nowhere Unequal n = refl
 
 -- 13 comes with a section of 1 to 4
-pub record Named (a : Read) : Type 0 where
-  pub by : numberOf a ≡ 13 → (1 ≤ sectionIn a) × (sectionIn a ≤ 4)
-
-by-test : (t : Bool) {refusal next : Read} → Named refusal → Named next → Named (needs t refusal next)
-by-test true p q = q
-by-test false p q = p
-
-named : {section : ℕ} → 1 ≤ section → section ≤ 4 → Named (CutShort section)
-named p q = record { by = λ z. (p, q) }
+abbrev pub Named : Read → Type 0
+Named a = numberOf a ≡ 13 → (1 ≤ sectionIn a) × (sectionIn a ≤ 4)
 
 pub section-named : (s : List ℕ) → Named (readOf s)
 unfolding readOf
 section-named s =
-    by-test (leb (length s) 65536) record { by = λ z. absurd (omega arith) }
-    (by-test (wholeAfter s 0) (named (lit≤ tt) (lit≤ tt))
-    (by-test (wholeAfter s 1) (named (lit≤ tt) (lit≤ tt))
-    (by-test (wholeAfter s 2) (named (lit≤ tt) (lit≤ tt))
-    (by-test (wholeAfter s 3) (named (lit≤ tt) (lit≤ tt))
-    (by-test (eqb (length (restAfter s 4)) 0) record { by = λ z. absurd (omega arith) }
-    (by-test (eqb (countAfter s 1) (countAfter s 2)) record { by = λ z. absurd (omega arith) } record { by = λ z. absurd (omega arith) }))))))
+    answer-is Named (readTests s) (Accepted (goneThrough s)) (
+      λ z. absurd (omega arith),
+      (
+        λ z. (lit≤ tt, lit≤ tt),
+        (
+          λ z. (lit≤ tt, lit≤ tt),
+          (
+            λ z. (lit≤ tt, lit≤ tt),
+            (
+              λ z. (lit≤ tt, lit≤ tt),
+              (λ z. absurd (omega arith), (λ z. absurd (omega arith), tt)),
+            ),
+          ),
+        ),
+      ),
+    )
+    (λ z. absurd (omega arith))

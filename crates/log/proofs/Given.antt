@@ -10,8 +10,8 @@ use native.Mathlib.Omega.{arith}
 use borrow.Author.Tests.{lt-ltb, le-leb}
 use lib.ListN.{length, drop, getD, length-drop}
 use lib.Seq.{drop-drop}
-use Rattle.log.specs.Section.{sizes, countOf, endOf, sectionOf, restAfter, countAfter, wholeAfter}
-use Rattle.log.specs.Log.{Address, Entries, nowhere, byteIn, wordIn, pairIn, entriesIn, entriesOf, bodyAfter}
+use Rattle.log.specs.Section.{injectionSize, sizes, countOf, endOf, sectionOf, restAfter, countAfter, wholeAfter}
+use Rattle.log.specs.Log.{Address, Entries, nowhere, byteIn, wordIn, pairIn, injectionIn, entriesIn, entriesOf, bodyAfter}
 use Rattle.log.specs.Answer.{readOf}
 use Rattle.log.specs.Look.{sectionAt, movedPast, skipFrom, entryIn, entryOf, lookAt, startAfter, entryGiven}
 use Rattle.log.specs.declared.answer.Read.the-variants.{Accepted}
@@ -83,7 +83,7 @@ module _ (s : List ℕ) {gone : ℕ} (e : readOf s ≡ Accepted gone) where
   given-in (suc (suc zero)) i h k =
       ap (λ (a : Address). Entry.Address (record { 0 = a .far }) (record { 0 = a .hpfar }))
       (sym (entry-at 16 pairIn (countAfter s 2) (bodyAfter s 2) i nowhere k))
-  given-in (suc (suc (suc zero))) i h k = ap Entry.Injection (sym (entry-at 1 byteIn (countAfter s 3) (bodyAfter s 3) i 0 k))
+  given-in (suc (suc (suc zero))) i h k = ap Entry.Injection (sym (entry-at injectionSize injectionIn (countAfter s 3) (bodyAfter s 3) i 0 k))
   given-in (suc (suc (suc (suc n)))) i h k = absurd (omega arith)
 
   pub entry-found : (n i : ℕ) → n < 4 → i < countAfter s n

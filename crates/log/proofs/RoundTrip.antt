@@ -1,21 +1,21 @@
 -- The laws of request C-14 on the format: a log that is accepted is the log of its entries, and the log of any entries is accepted with them.
 -- Assumes nothing.
-use mathlib.Core.Path.{_≡_, refl, sym, ap, _∙_}
-use mathlib.Core.Bool.{Bool, true, false}
+use mathlib.Core.Path.{_≡_, refl, sym, ap, subst, _∙_}
 use mathlib.Core.List.{List, [], _∷_, _++_, append-assoc, append-nil}
 use Prim.Native.Nat.{ℕ, zero, suc, _+_, _-_, _*_, _^_, _≤_, _<_}
 use native.Mathlib.Nat.{le-mul-of-pos-right}
 use native.Mathlib.Omega.{arith}
 use borrow.Author.Tests.{le-leb, leb-true, eq-eqb, eqb-true}
-use lib.Dec.{leb, eqb, lit<}
+use lib.Dec.{lit<}
 use lib.ListN.{length, take, drop, getD, length-append, length-drop}
 use lib.Seq.{take-at, drop-at, take-add, take-append-le, length-take-le}
 use Rattle.log.specs.Number.{little, number, Bytes}
-use Rattle.log.specs.Section.{sizes, countOf, endOf, wholeOf, afterOf, restAfter, countAfter, wholeAfter}
-use Rattle.log.specs.Log.{Address, Entries, byte, word, pair, byteIn, wordIn, pairIn, sectionBytes, entriesIn, logOf, bodyAfter, entriesOf, goneThrough}
-use Rattle.log.specs.Answer.{numberOf, goneIn, needs, readOf}
-use Rattle.log.specs.declared.answer.Read.{Read}
-use Rattle.log.specs.declared.answer.Read.the-variants.{Accepted, TooLong, CutShort, LeftOver, Unequal}
+use Rattle.bits.proofs.Deciding.{all-pass}
+use Rattle.log.specs.Section.{injectionSize, sizes, countOf, endOf, wholeOf, afterOf, restAfter, countAfter}
+use Rattle.log.specs.Log.{Address, Entries, byte, word, pair, injection, byteIn, wordIn, pairIn, injectionIn, sectionBytes, entriesIn, logOf, bodyAfter, entriesOf, goneThrough}
+use Rattle.log.specs.Answer.{readTests, readOf}
+use Rattle.log.specs.declared.answer.Read.the-variants.{Accepted}
+use Rattle.log.proofs.Answers.{Gone, read-gone, all-passed}
 use Rattle.log.proofs.Numbers.{length-little, number-little, little-number, bytes-drop, bytes-take}
 use Rattle.log.proofs.Found.{Whole, whole-is}
 use Rattle.log.proofs.Codec.{Each, Stands, section-length, section-stands, section-again, entries-count}
@@ -83,36 +83,23 @@ pub record Accepts (s : List ℕ) (gone : ℕ) : Type 0 where
   pub editions : Whole 1 (restAfter s 0)
   pub syndromes : Whole 8 (restAfter s 1)
   pub addresses : Whole 16 (restAfter s 2)
-  pub injections : Whole 1 (restAfter s 3)
+  pub injections : Whole injectionSize (restAfter s 3)
   pub none-left : length (restAfter s 4) ≡ 0
   pub agree : countAfter s 1 ≡ countAfter s 2
   pub told : gone ≡ goneThrough s
 
--- a test that stands before an accepted answer passed
-passed : (t : Bool) (refusal next : Read) {gone : ℕ} → (numberOf refusal ≡ 0 → ⊥) → needs t refusal next ≡ Accepted gone
-    → (t ≡ true) × (next ≡ Accepted gone)
-passed true refusal next never e = (refl, e)
-passed false refusal next never e = absurd (never (ap numberOf e))
-
 pub accepts : (s : List ℕ) {gone : ℕ} → readOf s ≡ Accepted gone → Accepts s gone
-unfolding readOf
-accepts s {gone} e =
-    let a = passed (leb (length s) 65536) TooLong _ (λ z. omega arith) e in
-    let b = passed (wholeAfter s 0) (CutShort 1) _ (λ z. omega arith) (a .1) in
-    let c = passed (wholeAfter s 1) (CutShort 2) _ (λ z. omega arith) (b .1) in
-    let d = passed (wholeAfter s 2) (CutShort 3) _ (λ z. omega arith) (c .1) in
-    let f = passed (wholeAfter s 3) (CutShort 4) _ (λ z. omega arith) (d .1) in
-    let g = passed (eqb (length (restAfter s 4)) 0) LeftOver _ (λ z. omega arith) (f .1) in
-    let h = passed (eqb (countAfter s 1) (countAfter s 2)) Unequal _ (λ z. omega arith) (g .1) in
+accepts s e =
+    let f = all-passed s e in
     record {
-      short = leb-true (length s) 65536 (a .0);
-      editions = whole-is 1 (restAfter s 0) (b .0);
-      syndromes = whole-is 8 (restAfter s 1) (c .0);
-      addresses = whole-is 16 (restAfter s 2) (d .0);
-      injections = whole-is 1 (restAfter s 3) (f .0);
-      none-left = eqb-true (length (restAfter s 4)) 0 (g .0);
-      agree = eqb-true (countAfter s 1) (countAfter s 2) (h .0);
-      told = sym (ap goneIn (h .1));
+      short = leb-true (length s) 65536 (f .0);
+      editions = whole-is 1 (restAfter s 0) (f .1 .0);
+      syndromes = whole-is 8 (restAfter s 1) (f .1 .1 .0);
+      addresses = whole-is 16 (restAfter s 2) (f .1 .1 .1 .0);
+      injections = whole-is injectionSize (restAfter s 3) (f .1 .1 .1 .1 .0);
+      none-left = eqb-true (length (restAfter s 4)) 0 (f .1 .1 .1 .1 .1 .0);
+      agree = eqb-true (countAfter s 1) (countAfter s 2) (f .1 .1 .1 .1 .1 .1 .0);
+      told = subst (Gone s) e (read-gone s);
     }
 
 -- THE NUMBER GONE THROUGH is the one that the log's bytes define, and at most the log's length less 12
@@ -129,7 +116,7 @@ gone-bound s e =
         gone-section 1 (lit< tt) (restAfter s 0) (a .editions),
         gone-section 8 (lit< tt) (restAfter s 1) (a .syndromes),
         gone-section 16 (lit< tt) (restAfter s 2) (a .addresses),
-        gone-section 1 (lit< tt) (restAfter s 3) (a .injections),
+        gone-section injectionSize (lit< tt) (restAfter s 3) (a .injections),
       ),
     )
 
@@ -143,7 +130,7 @@ module _ (s : List ℕ) (b : Bytes s) where
   unfolding logOf entriesOf
   log-again e =
       let a = accepts s e in
-      let fourth = numbers-last 1 (restAfter s 3) (bytes-after 3) (a .injections) (a .none-left) in
+      let fourth = numbers-last injectionSize (restAfter s 3) (bytes-after 3) (a .injections) (a .none-left) in
       let third = section-again 16 pair pairIn PairFits pair-sized pair-back pair-again (restAfter s 2) (bytes-after 2) (a .addresses) in
       let second = numbers-again 8 (restAfter s 1) (bytes-after 1) (a .syndromes) in
       let first = numbers-again 1 s b (a .editions) in
@@ -160,15 +147,15 @@ pub record Writable (e : Entries) : Type 0 where
   pub editions : Each (Fitting 1) (e .editions)
   pub syndromes : Each (Fitting 8) (e .syndromes)
   pub addresses : Each PairFits (e .addresses)
-  pub injections : Each (Fitting 1) (e .injections)
+  pub injections : Each (Fitting injectionSize) (e .injections)
   pub agree : length (e .syndromes) ≡ length (e .addresses)
   pub short : length (logOf e) ≤ 65536
 
 pub log-length : (e : Entries) → length (logOf e)
-    ≡ 16 + length (e .editions) + length (e .syndromes) * 8 + length (e .addresses) * 16 + length (e .injections)
+    ≡ 16 + length (e .editions) + length (e .syndromes) * 8 + length (e .addresses) * 16 + length (e .injections) * injectionSize
 unfolding logOf
 log-length e =
-    let fourth : List ℕ = sectionBytes byte (e .injections) in
+    let fourth : List ℕ = sectionBytes injection (e .injections) in
     let third : List ℕ = sectionBytes pair (e .addresses) ++ fourth in
     let second : List ℕ = sectionBytes word (e .syndromes) ++ third in
     omega (
@@ -179,7 +166,7 @@ log-length e =
       numbers-length 1 (e .editions),
       numbers-length 8 (e .syndromes),
       pairs-length (e .addresses),
-      numbers-length 1 (e .injections),
+      numbers-length injectionSize (e .injections),
     )
 
 -- ACCEPTED: the log of writable entries is read, and holds those entries
@@ -188,7 +175,7 @@ module _ (e : Entries) (w : Writable e) where
   s = logOf e
 
   abbrev fourth : List ℕ
-  fourth = sectionBytes byte (e .injections)
+  fourth = sectionBytes injection (e .injections)
 
   abbrev third : List ℕ
   third = sectionBytes pair (e .addresses) ++ fourth
@@ -209,25 +196,38 @@ module _ (e : Entries) (w : Writable e) where
       section-stands 16 pair pairIn PairFits pair-sized pair-back pair-again (e .addresses) fourth (restAfter s 2)
       (omega (arith, log-length e, w .short)) (w .addresses) (syndromes-stand .after)
 
-  injections-stand : Stands 1 byteIn (e .injections) (restAfter s 3) []
+  injections-stand : Stands injectionSize injectionIn (e .injections) (restAfter s 3) []
   injections-stand =
-      numbers-stand 1 (e .injections) [] (restAfter s 3) (omega (arith, log-length e, w .short)) (w .injections)
+      numbers-stand injectionSize (e .injections) [] (restAfter s 3) (omega (arith, log-length e, w .short)) (w .injections)
       (addresses-stand .after ∙ sym (append-nil fourth))
 
   pub log-accepted : readOf (logOf e)
       ≡ Accepted (4 + length (e .editions) + length (e .syndromes) + length (e .addresses) + length (e .injections))
   unfolding readOf
   log-accepted =
-      simp (
+      all-pass (readTests s) (Accepted (goneThrough s)) (
         le-leb (length s) 65536 (w .short),
-        editions-stand .whole,
-        syndromes-stand .whole,
-        addresses-stand .whole,
-        injections-stand .whole,
-        eq-eqb (length (restAfter s 4)) 0 (ap length (injections-stand .after)),
-        eq-eqb (countAfter s 1) (countAfter s 2) (syndromes-stand .counts ∙ w .agree ∙ sym (addresses-stand .counts)),
+        (
+          editions-stand .whole,
+          (
+            syndromes-stand .whole,
+            (
+              addresses-stand .whole,
+              (
+                injections-stand .whole,
+                (
+                  eq-eqb (length (restAfter s 4)) 0 (ap length (injections-stand .after)),
+                  (
+                    eq-eqb (countAfter s 1) (countAfter s 2) (syndromes-stand .counts ∙ w .agree ∙ sym (addresses-stand .counts)),
+                    tt,
+                  ),
+                ),
+              ),
+            ),
+          ),
+        ),
       )
-      (ap Accepted (omega (arith, editions-stand .counts, syndromes-stand .counts, addresses-stand .counts, injections-stand .counts)))
+      ∙ (ap Accepted (omega (arith, editions-stand .counts, syndromes-stand .counts, addresses-stand .counts, injections-stand .counts)))
 
   pub log-entries : entriesOf (logOf e) ≡ e
   unfolding entriesOf

@@ -1,10 +1,12 @@
--- Request C-14: what reading a log answers, for every slice of bytes, and the number, the section and the number gone through of each answer.
-use Prim.Native.Nat.{ℕ, _+_}
-use mathlib.Core.Bool.{Bool, true, false}
-use mathlib.Core.List.{List}
+-- Request C-14: what reading a log answers, for every slice of bytes, with the number, the section and the number gone through of each answer.
+use Prim.Native.Nat.{ℕ}
+use mathlib.Core.Path.{_≡_}
+use mathlib.Core.Bool.{cond}
+use mathlib.Core.List.{List, [], _∷_}
 use lib.Dec.{leb, eqb}
 use lib.ListN.{length}
-use Rattle.log.specs.Section.{countOf, wholeOf, afterOf, restAfter, countAfter, wholeAfter}
+use Rattle.bits.specs.Decide.{Test, needs, decide}
+use Rattle.log.specs.Section.{restAfter, countAfter, wholeAfter}
 use Rattle.log.specs.Log.{goneThrough}
 use Rattle.log.specs.declared.answer.Read.{Read}
 use Rattle.log.specs.declared.answer.Read.the-variants.{Accepted, TooLong, CutShort, LeftOver, Unequal}
@@ -32,35 +34,37 @@ goneIn (CutShort section) = 0
 goneIn LeftOver = 0
 goneIn Unequal = 0
 
--- where a test fails its refusal is the answer, else what comes after it is
-abbrev pub needs : Bool → Read → Read → Read
-needs true refusal next = next
-needs false refusal next = refusal
+-- THE TESTS in their order, each with what comes where it fails: at most 65,536 bytes; each section whole, the smaller number first; nothing
+-- left over after the last; the syndrome and address counts agree
+module _ {A : Type 0} (tooLong : A) (cutShort : ℕ → A) (leftOver unequal : A) where
+  abbrev pub testsOf : List ℕ → List (Test A)
+  testsOf s =
+      needs (leb (length s) 65536) tooLong
+      ∷ needs (wholeAfter s 0) (cutShort 1)
+      ∷ needs (wholeAfter s 1) (cutShort 2)
+      ∷ needs (wholeAfter s 2) (cutShort 3)
+      ∷ needs (wholeAfter s 3) (cutShort 4)
+      ∷ needs (eqb (length (restAfter s 4)) 0) leftOver
+      ∷ needs (eqb (countAfter s 1) (countAfter s 2)) unequal
+      ∷ []
 
--- 16 first, then 13 for the smallest section that is not whole, then 14, and 15 last
+-- each with its answer, with its number, and with its section
+abbrev pub readTests : List ℕ → List (Test Read)
+readTests s = testsOf TooLong CutShort LeftOver Unequal s
+
+abbrev pub readNumbers : List ℕ → List (Test ℕ)
+readNumbers s = testsOf 16 (λ section. 13) 14 15 s
+
+abbrev pub readSections : List ℕ → List (Test ℕ)
+readSections s = testsOf 0 (λ section. section) 0 0 s
+
+-- the first test that fails gives the answer
 unfoldable pub readOf : List ℕ → Read
-readOf s =
-    needs (leb (length s) 65536) TooLong
-    (needs (wholeAfter s 0) (CutShort 1)
-    (needs (wholeAfter s 1) (CutShort 2)
-    (needs (wholeAfter s 2) (CutShort 3)
-    (needs (wholeAfter s 3) (CutShort 4)
-    (needs (eqb (length (restAfter s 4)) 0) LeftOver
-    (needs (eqb (countAfter s 1) (countAfter s 2)) Unequal
-    (Accepted (goneThrough s))))))))
+readOf s = decide (readTests s) (Accepted (goneThrough s))
 
--- The readers of the single sections, each from the rest of the log that is handed on to it: inner contracts, which are `readOf` together.
-abbrev pub injectionsIn : List ℕ → ℕ → Bool → Read
-injectionsIn s gone agree =
-    needs (wholeOf 1 s) (CutShort 4)
-    (needs (eqb (length (afterOf 1 s)) 0) LeftOver (needs agree Unequal (Accepted (gone + 1 + countOf s))))
-
-abbrev pub addressesIn : List ℕ → ℕ → ℕ → Read
-addressesIn s gone syndromes =
-    needs (wholeOf 16 s) (CutShort 3) (injectionsIn (afterOf 16 s) (gone + 1 + countOf s) (eqb syndromes (countOf s)))
-
-abbrev pub syndromesIn : List ℕ → ℕ → Read
-syndromesIn s gone = needs (wholeOf 8 s) (CutShort 2) (addressesIn (afterOf 8 s) (gone + 1 + countOf s) (countOf s))
-
-abbrev pub editionsIn : List ℕ → Read
-editionsIn s = needs (wholeOf 1 s) (CutShort 1) (syndromesIn (afterOf 1 s) (1 + countOf s))
+-- THE PROMISE of reading: the answer; its number and its section, by the first test that fails; and the number gone through, 0 on a refusal
+pub record Reading (s : List ℕ) (a : Read) : Type 0 where
+  pub answer : a ≡ readOf s
+  pub number : numberOf a ≡ decide (readNumbers s) 0
+  pub section : sectionIn a ≡ decide (readSections s) 0
+  pub gone : goneIn a ≡ cond (eqb (numberOf a) 0) (goneThrough s) 0

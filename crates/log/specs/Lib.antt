@@ -2,4 +2,5 @@ pub mod Number
 pub mod Section
 pub mod Log
 pub mod Answer
+pub mod Inner
 pub mod Look

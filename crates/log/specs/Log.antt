@@ -3,7 +3,7 @@ use Prim.Native.Nat.{ℕ, zero, suc, _+_}
 use mathlib.Core.List.{List, [], _∷_, _++_}
 use lib.ListN.{length, take, drop}
 use Rattle.log.specs.Number.{little, number}
-use Rattle.log.specs.Section.{restAfter, countAfter}
+use Rattle.log.specs.Section.{injectionSize, restAfter, countAfter}
 
 -- an entry of the third section: FAR, then HPFAR
 pub record Address : Type 0 where
@@ -30,6 +30,9 @@ word n = little 8 n
 abbrev pub pair : Address → List ℕ
 pair a = little 8 (a .far) ++ little 8 (a .hpfar)
 
+abbrev pub injection : ℕ → List ℕ
+injection n = little injectionSize n
+
 abbrev pub byteIn : List ℕ → ℕ
 byteIn s = number (take 1 s)
 
@@ -38,6 +41,9 @@ wordIn s = number (take 8 s)
 
 abbrev pub pairIn : List ℕ → Address
 pairIn s = record { far = wordIn s; hpfar = wordIn (drop 8 s) }
+
+abbrev pub injectionIn : List ℕ → ℕ
+injectionIn s = number (take injectionSize s)
 
 -- a section: its count, 32 bits, and its entries one after the other
 module _ {A : Type 0} (bytes : A → List ℕ) where
@@ -58,7 +64,7 @@ module _ {A : Type 0} (size : ℕ) (read : List ℕ → A) where
 unfoldable pub logOf : Entries → List ℕ
 logOf e =
     sectionBytes byte (e .editions) ++ (sectionBytes word (e .syndromes)
-    ++ (sectionBytes pair (e .addresses) ++ sectionBytes byte (e .injections)))
+    ++ (sectionBytes pair (e .addresses) ++ sectionBytes injection (e .injections)))
 
 -- the entries of section n + 1 stand behind its count
 abbrev pub bodyAfter : List ℕ → ℕ → List ℕ
@@ -70,7 +76,7 @@ entriesOf s =
       editions = entriesIn 1 byteIn (countAfter s 0) (bodyAfter s 0);
       syndromes = entriesIn 8 wordIn (countAfter s 1) (bodyAfter s 1);
       addresses = entriesIn 16 pairIn (countAfter s 2) (bodyAfter s 2);
-      injections = entriesIn 1 byteIn (countAfter s 3) (bodyAfter s 3);
+      injections = entriesIn injectionSize injectionIn (countAfter s 3) (bodyAfter s 3);
     }
 
 -- how many counts and entries a log has: four counts, and an address pair is one entry

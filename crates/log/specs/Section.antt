@@ -8,9 +8,13 @@ use lib.ListN.{length, take, drop, getD}
 use Rattle.log.specs.Number.{number}
 use Rattle.log.specs.declared.section.Section.{Section}
 
+-- the size of an injection
+abbrev pub injectionSize : ℕ
+injectionSize = 1
+
 -- the size of an entry, once for each section: editions seen, syndromes, addresses, injections
 abbrev pub sizes : List ℕ
-sizes = 1 ∷ 8 ∷ 16 ∷ 1 ∷ []
+sizes = 1 ∷ 8 ∷ 16 ∷ injectionSize ∷ []
 
 -- a count is 32 bits
 unfoldable pub countOf : List ℕ → ℕ

@@ -2,8 +2,7 @@
 //
 // Each section is its count of entries, 32 bits little-endian, and then the entries: the editions seen (one byte each), the syndromes (8
 // bytes), the addresses (FAR and HPFAR, 8 bytes each) and the injections (one byte). Entries are carried and not judged.
-ghost use mathlib.Core.Path.{_≡_};
-ghost use Rattle.log.specs.Answer.{readOf};
+ghost use Rattle.log.specs.Answer.{Reading};
 
 mod answer;
 mod entry;
@@ -27,7 +26,7 @@ pub const MOST: usize = 65536;
 
 // Reads a log.
 pub fn read(log: &[u8]) -> Read
-    ensures { λ a. ⌜ a ≡ readOf (now (log .entry)) ⌝ }
+    ensures { λ a. ⌜ Reading (now (log .entry)) a ⌝ }
 {
     if MOST < log.len() {
         return Read::TooLong;

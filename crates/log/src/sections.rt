@@ -4,7 +4,7 @@
 ghost use mathlib.Core.Path.{_≡_};
 ghost use Prim.Native.Nat.{_+_, _<_, _^_};
 ghost use lib.ListN.{length};
-ghost use Rattle.log.specs.Answer.{editionsIn, syndromesIn, addressesIn, injectionsIn};
+ghost use Rattle.log.specs.Inner.{editionsIn, syndromesIn, addressesIn, injectionsIn};
 use super::answer::Read;
 use super::section::ADDRESS;
 use super::section::EDITION;

@@ -9,13 +9,17 @@ use borrow.Author.Tests.{le-leb, lt-leb}
 use denote.Ref.{now}
 use lib.ListN.{length}
 use Rattle.log.specs.Section.{countAfter}
-use Rattle.log.specs.Answer.{readOf, editionsIn}
+use Rattle.log.specs.Answer.{readOf}
+use Rattle.log.specs.Inner.{editionsIn}
+use Rattle.log.proofs.Answers.{promised}
 use Rattle.log.proofs.read.Statement.{statement}
 use Rattle.log.proofs.read.Tie as tie
 
 returns : tie.Need-returns
 unfolding readOf
-returns c = sym (simp (lt-leb (length (now (c .before .before .args .log))) 65536 (c .if1 .taken)))
+returns c =
+    let s = now (c .before .before .args .log) in
+    promised s (sym (simp (lt-leb (length s) 65536 (c .if1 .taken))))
 
 editions-requires : tie.Need-editions-requires
 editions-requires c κs = search needs
@@ -32,7 +36,9 @@ in-turn s h =
     (rw (four-counts (countAfter s 0) (countAfter s 1) (countAfter s 2) (countAfter s 3)))
 
 returns-2 : tie.Need-returns-2
-returns-2 c = c .editions .ensures ∙ in-turn (now (c .before .before .before .args .log)) (c .before .if1 .left)
+returns-2 c =
+    let s = now (c .before .before .before .args .log) in
+    promised s (c .editions .ensures ∙ in-turn s (c .before .if1 .left))
 
 pub read-spec : {M : Type 1} → statement M
 read-spec = tie.close (tie.spec returns editions-requires returns-2)
