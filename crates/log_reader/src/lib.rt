@@ -1,10 +1,12 @@
-// A reader that holds a lent log and its place in it. It moves over the log section by section, and copies nothing.
+// A reader that holds a lent log and its place in it. It answers how the log is read, moves over it section by section, and copies nothing.
 //
-// Whether the log is accepted is for `log::read` to say: of any bytes, the reader gives what stands in the sections that are whole.
+// Where the log is refused, a look still gives what stands in the sections that are whole: the answer is for the caller to ask.
 ghost use mathlib.Core.Path.{_≡_};
+ghost use Rattle.log.specs.Answer.{Reading};
 ghost use Rattle.log.specs.Look.{lookAt};
 ghost use Rattle.log_reader.specs.Reader.{placeFrom, lookIn};
 use log::Look;
+use log::Read;
 
 pub struct LogReader<'a> {
     pub log: &'a [u8],
@@ -22,6 +24,13 @@ pub fn open<'a>(log: &'a [u8]) -> LogReader<'a>
         passed: 0,
         at: 0,
     }
+}
+
+// How the log is read, whatever the reader's place in it.
+pub fn read<'a>(r: LogReader<'a>) -> Read
+    ensures { λ a. ⌜ Reading (now (r .entry .log)) a ⌝ }
+{
+    log::read(r.log)
 }
 
 // The reader past n sections, or as many as are whole.
@@ -43,7 +52,14 @@ pub fn look<'a>(r: LogReader<'a>, i: usize) -> Look
     log::look_at(r.log, r.passed, r.at, i)
 }
 
-// For every other caller: the section after so many, and its entry i.
+// For a caller that has the plain slice: how the log is read.
+pub fn read_in(log: &[u8]) -> Read
+    ensures { λ a. ⌜ Reading (now (log .entry)) a ⌝ }
+{
+    read(open(log))
+}
+
+// For a caller that has the plain slice: the section after so many, and its entry i.
 pub fn look_in(log: &[u8], passed: u32, i: usize) -> Look
     ensures { λ l. ⌜ l ≡ lookIn (now (log .entry)) passed i ⌝ }
 {
