@@ -4,17 +4,23 @@ use mathlib.Core.Logic.{_⊎_, inl, inr, _↔_}
 use mathlib.Core.Path.{_≡_, refl, sym, ap, subst, _∙_}
 use mathlib.Core.Bool.{true, cond}
 use mathlib.Core.List.{List, [], _∷_}
-use Prim.Native.Nat.{ℕ, zero, suc, _+_, _≤_, _<_}
+use Prim.Native.Nat.{ℕ, zero, suc, _≤_}
 use native.Mathlib.Omega.{arith}
 use lib.Dec.{leb, eqb, lit≤}
 use lib.ListN.{length}
 use Rattle.bits.specs.Decide.{Test, needs, decide, FirstFails, FailsWith}
-use Rattle.bits.proofs.Deciding.{decide-relabel, decided-exactly, decided-with-exactly, answer-is}
+use Rattle.bits.proofs.Deciding.{OneOf, decide-relabel, decided-exactly, decided-with-exactly, answer-is}
 use Rattle.log.specs.Section.{wholeAfter}
 use Rattle.log.specs.Log.{goneThrough}
 use Rattle.log.specs.Answer.{numberOf, sectionIn, goneIn, testsOf, readTests, readNumbers, readSections, readOf, Reading}
 use Rattle.log.specs.declared.answer.Read.{Read}
 use Rattle.log.specs.declared.answer.Read.the-variants.{Accepted, TooLong, CutShort, LeftOver, Unequal}
+
+-- what holds of each refusal holds of what every test gives
+each-refusal : (P : Read → Type 0) (s : List ℕ)
+    → P TooLong → ((n : ℕ) → 1 ≤ n → n ≤ 4 → P (CutShort n)) → P LeftOver → P Unequal → OneOf P (readTests s)
+each-refusal P s long cut left unequal =
+    (long, (cut 1 (lit≤ tt) (lit≤ tt), (cut 2 (lit≤ tt) (lit≤ tt), (cut 3 (lit≤ tt) (lit≤ tt), (cut 4 (lit≤ tt) (lit≤ tt), (left, (unequal, tt)))))))
 
 -- ---- the promise, by its equation alone
 
@@ -33,7 +39,7 @@ Gone s a = goneIn a ≡ cond (eqb (numberOf a) 0) (goneThrough s) 0
 pub read-gone : (s : List ℕ) → Gone s (readOf s)
 unfolding readOf
 read-gone s =
-    answer-is (Gone s) (readTests s) (Accepted (goneThrough s)) (refl, (refl, (refl, (refl, (refl, (refl, (refl, tt))))))) refl
+    answer-is (Gone s) (readTests s) (Accepted (goneThrough s)) (each-refusal (Gone s) s refl (λ n p q. refl) refl refl) refl
 
 pub promised : (s : List ℕ) {a : Read} → a ≡ readOf s → Reading s a
 promised s e =
@@ -48,51 +54,53 @@ read-refused-exactly s k =
     let law = decided-with-exactly (readNumbers s) k in
     (λ e. law .0 (sym (read-number s) ∙ e), λ f. read-number s ∙ law .1 f)
 
--- where a test stands in the order, so that no two answers have one number: 13 by its section
-abbrev placeOf : Read → ℕ
-placeOf (Accepted gone) = 0
-placeOf TooLong = 5
-placeOf (CutShort section) = section
-placeOf LeftOver = 6
-placeOf Unequal = 7
+-- a label for each answer, so that no two tests have one: a section's is its number
+abbrev labelOf : Read → ℕ
+labelOf (Accepted gone) = 0
+labelOf TooLong = 5
+labelOf (CutShort section) = section
+labelOf LeftOver = 6
+labelOf Unequal = 7
 
-abbrev places : List ℕ → List (Test ℕ)
-places s = testsOf 5 (λ section. section) 6 7 s
+abbrev labels : List ℕ → List (Test ℕ)
+labels s = testsOf 5 (λ section. section) 6 7 s
 
-read-place : (s : List ℕ) → placeOf (readOf s) ≡ decide (places s) 0
+read-label : (s : List ℕ) → labelOf (readOf s) ≡ decide (labels s) 0
 unfolding readOf
-read-place s = decide-relabel placeOf (readTests s) (Accepted (goneThrough s))
+read-label s = decide-relabel labelOf (readTests s) (Accepted (goneThrough s))
 
-first-at : (s : List ℕ) (k : ℕ) → placeOf (readOf s) ≡ k → FirstFails k (places s)
-first-at s k e = decided-exactly (places s) tt k .0 (sym (read-place s) ∙ e)
+first-at : (s : List ℕ) (k : ℕ) → (labelOf (readOf s) ≡ k) ↔ FirstFails k (labels s)
+first-at s k =
+    let law = decided-exactly (labels s) tt k in
+    (λ e. law .0 (sym (read-label s) ∙ e), λ f. read-label s ∙ law .1 f)
 
-at-first : (s : List ℕ) (k : ℕ) → FirstFails k (places s) → placeOf (readOf s) ≡ k
-at-first s k f = read-place s ∙ decided-exactly (places s) tt k .1 f
-
-cut-at : (a : Read) (n : ℕ) → 0 < n → n ≤ 4 → placeOf a ≡ n → a ≡ CutShort n
+cut-at : (a : Read) (n : ℕ) → 1 ≤ n → n ≤ 4 → labelOf a ≡ n → a ≡ CutShort n
 cut-at (Accepted gone) n h k e = absurd (omega arith)
 cut-at TooLong n h k e = absurd (omega arith)
 cut-at (CutShort section) n h k e = ap CutShort e
 cut-at LeftOver n h k e = absurd (omega arith)
 cut-at Unequal n h k e = absurd (omega arith)
 
+cut-first : (s : List ℕ) (n : ℕ) → 1 ≤ n → n ≤ 4 → (readOf s ≡ CutShort n) ↔ FirstFails n (labels s)
+cut-first s n h k = (λ e. first-at s n .0 (ap labelOf e), λ f. cut-at (readOf s) n h k (first-at s n .1 f))
+
 -- the sections in their order, each with its number
 abbrev pub wholeTests : List ℕ → List (Test ℕ)
 wholeTests s = needs (wholeAfter s 0) 1 ∷ needs (wholeAfter s 1) 2 ∷ needs (wholeAfter s 2) 3 ∷ needs (wholeAfter s 3) 4 ∷ []
 
--- 13 comes with a section exactly when the log is not too long and this section is the first that is not whole
-pub cut-short-exactly : (s : List ℕ) (n : ℕ) → 0 < n → n ≤ 4
+-- 13 comes with a section, 1 to 4, exactly when the log is not too long and this section is the first that is not whole
+pub cut-short-exactly : (s : List ℕ) (n : ℕ) → 1 ≤ n → n ≤ 4
     → (readOf s ≡ CutShort n) ↔ ((leb (length s) 65536 ≡ true) × FirstFails n (wholeTests s))
 cut-short-exactly s zero h k = absurd (omega arith)
-cut-short-exactly s (suc zero) h k = (λ e. first-at s 1 (ap placeOf e), λ f. cut-at (readOf s) 1 h k (at-first s 1 f))
-cut-short-exactly s (suc (suc zero)) h k = (λ e. first-at s 2 (ap placeOf e), λ f. cut-at (readOf s) 2 h k (at-first s 2 f))
-cut-short-exactly s (suc (suc (suc zero))) h k = (λ e. first-at s 3 (ap placeOf e), λ f. cut-at (readOf s) 3 h k (at-first s 3 f))
-cut-short-exactly s (suc (suc (suc (suc zero)))) h k = (λ e. first-at s 4 (ap placeOf e), λ f. cut-at (readOf s) 4 h k (at-first s 4 f))
+cut-short-exactly s (suc zero) h k = cut-first s 1 h k
+cut-short-exactly s (suc (suc zero)) h k = cut-first s 2 h k
+cut-short-exactly s (suc (suc (suc zero))) h k = cut-first s 3 h k
+cut-short-exactly s (suc (suc (suc (suc zero)))) h k = cut-first s 4 h k
 cut-short-exactly s (suc (suc (suc (suc (suc n))))) h k = absurd (omega arith)
 
 -- an accepted log passes every test
-pub all-passed : (s : List ℕ) {gone : ℕ} → readOf s ≡ Accepted gone → FirstFails 0 (places s)
-all-passed s e = first-at s 0 (ap placeOf e)
+pub all-passed : (s : List ℕ) {gone : ℕ} → readOf s ≡ Accepted gone → FirstFails 0 (labels s)
+all-passed s e = first-at s 0 .0 (ap labelOf e)
 
 -- ---- what goes with a number
 
@@ -126,20 +134,6 @@ Named a = numberOf a ≡ 13 → (1 ≤ sectionIn a) × (sectionIn a ≤ 4)
 pub section-named : (s : List ℕ) → Named (readOf s)
 unfolding readOf
 section-named s =
-    answer-is Named (readTests s) (Accepted (goneThrough s)) (
-      λ z. absurd (omega arith),
-      (
-        λ z. (lit≤ tt, lit≤ tt),
-        (
-          λ z. (lit≤ tt, lit≤ tt),
-          (
-            λ z. (lit≤ tt, lit≤ tt),
-            (
-              λ z. (lit≤ tt, lit≤ tt),
-              (λ z. absurd (omega arith), (λ z. absurd (omega arith), tt)),
-            ),
-          ),
-        ),
-      ),
-    )
+    answer-is Named (readTests s) (Accepted (goneThrough s))
+    (each-refusal Named s (λ z. absurd (omega arith)) (λ n p q z. (p, q)) (λ z. absurd (omega arith)) (λ z. absurd (omega arith)))
     (λ z. absurd (omega arith))
