@@ -66,6 +66,18 @@ pub promised : (s : Guest) (r : Record) (value : ℕ) {f : Finished} → f ≡ f
 promised s r value e =
     record { result = e; number = ap numberIn e ∙ number-decided s r value; mask = refl; count = refl }
 
+-- A REFUSAL gives back the very state
+refused-description : (s : Guest) (d : Described) (value : ℕ) → (numberIn (byDescription s d value) ≡ 0 → ⊥) → byDescription s d value .state ≡ s
+refused-description s (Access r) value n = absurd (n (finished-access s r value))
+refused-description s Nothing value n = refl
+
+pub refused-untouched : (s : Guest) (r : Record) (value : ℕ) → (numberIn (finished s r value) ≡ 0 → ⊥) → finished s r value .state ≡ s
+unfolding finished
+refused-untouched s r value =
+    answer-is (λ (f : Finished). (numberIn f ≡ 0 → ⊥) → f .state ≡ s)
+    (needs (had r) (refusing NoEdition s) ∷ needs (sound (s .marks) (s .status)) (refusing UnsoundStatus s) ∷ [])
+    (byDescription s (describedOf r) value) (λ n. refl, (λ n. refl, tt)) (refused-description s (describedOf r) value)
+
 -- finishing an access answers 0, 5, 9 or 18
 pub number-listed : (s : Guest) (r : Record) → T (among accessList (decide (accessNumbers s r) 0))
 number-listed s r = answer-is (λ n. T (among accessList n)) (accessNumbers s r) 0 (tt, (tt, (tt, tt))) tt

@@ -29,13 +29,16 @@ savedIn Undefined s w = record { fiq = s .fiq; irq = s .irq; svc = s .svc; abt =
 savedIn Fiq s w = record { fiq = w; irq = s .irq; svc = s .svc; abt = s .abt; und = s .und }
 savedIn Irq s w = record { fiq = s .fiq; irq = w; svc = s .svc; abt = s .abt; und = s .und }
 
--- The new state: registers, PC, status word, saved status words and fault registers. PC doesn't wrap where VBAR is aligned (`vector-exact`,
+-- the new state, given its status word: registers, PC, saved status words and fault registers. PC doesn't wrap where VBAR is aligned (`vector-exact`,
 -- proofs/Vectors.antt).
-unfoldable pub entered : Guest → Row → FaultRegisters → Guest
-entered s row faults =
+abbrev pub enteredWith : ℕ → Guest → Row → FaultRegisters → Guest
+enteredWith status s row faults =
     changed s
     (withRegister (s .regs) (row .link) (linkFrom s row))
     ((vectorBase (s .sctlr) (s .vbar) + row .vector) % 2 ^ 32)
-    (entryStatus (s .marks) (row .mode) (row .a) (row .f) (s .status) (s .sctlr))
+    status
     (savedIn (row .mode) (s .saved) (s .status))
     faults
+
+unfoldable pub entered : Guest → Row → FaultRegisters → Guest
+entered s row faults = enteredWith (entryStatus (s .marks) (row .mode) (row .a) (row .f) (s .status) (s .sctlr)) s row faults

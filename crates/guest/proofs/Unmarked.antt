@@ -1,10 +1,10 @@
 -- Marks (02, C-15): an injection changes none, and a state with none behaves as before the request.
 use mathlib.Core.Path.{_≡_, refl, ap, ap₂, _∙_}
 use mathlib.Core.Bool.{Bool, true, false, cond}
-use mathlib.Core.List.{List, [], _∷_}
+use mathlib.Core.List.{[], _∷_}
 use Prim.Native.Nat.{ℕ}
 use lib.Dec.{eqb}
-use Rattle.bits.specs.Decide.{Test, needs}
+use Rattle.bits.specs.Decide.{needs, decide}
 use Rattle.status.specs.declared.Marks.{Marks}
 use Rattle.status.specs.Base.{unmarked, baseSound, baseEntryStatus}
 use Rattle.status.specs.Sound.{sound}
@@ -12,13 +12,17 @@ use Rattle.status.specs.Entry.{entryStatus}
 use Rattle.status.proofs.Unmarked.{unmarked-sound, unmarked-entry}
 use Rattle.exception.specs.declared.state.Guest.{Guest}
 use Rattle.exception.specs.Vector.{aligned}
+use Rattle.exception.specs.Entry.{enteredWith, entered}
+use Rattle.guest.specs.declared.answer.Answer.{Answer}
+use Rattle.guest.specs.declared.answer.Answer.the-variants.{Accepted, UnsoundStatus, UnalignedVbar, UnwritableFault, WideAddress}
 use Rattle.guest.specs.declared.injection.Injection.{Injection}
 use Rattle.guest.specs.declared.injection.Injection.the-variants.{UndefinedAt, UndefinedAfter, SupervisorCall, PrefetchAbort, DataAbort}
+use Rattle.guest.specs.declared.injector.Injected.{Injected}
 use Rattle.guest.specs.Answer.{answerNumber}
 use Rattle.guest.specs.Injection.{injectionRow}
-use Rattle.exception.specs.Entry.{entered}
-use Rattle.guest.specs.Tests.{writable, addressFits, injectionNumbers}
-use Rattle.guest.specs.Inject.{guestAfter, injectionAnswer, injected}
+use Rattle.guest.specs.Tests.{writable, addressFits}
+use Rattle.guest.specs.Inject.{faultsAfter, guestAfter, injectionAnswer, resulting, injected}
+use Rattle.guest.specs.Base.{baseInjected}
 
 -- the state that is given back has the marks that came, on a refusal too
 pub marks-kept : (s : Guest) (i : Injection) → injected s i .state .marks ≡ s .marks
@@ -37,18 +41,30 @@ f-kept SupervisorCall = refl
 f-kept (PrefetchAbort f) = refl
 f-kept (DataAbort a) = refl
 
--- with no mark the tests are those of the base
-pub unmarked-tests : (s : Guest) (i : Injection) → s .marks ≡ unmarked
-    → injectionNumbers s i
-    ≡ (needs (baseSound (s .status)) 9 ∷ needs (aligned (s .vbar)) 10 ∷ needs (writable i (s .ttbcr)) 11 ∷ needs (addressFits i) 12 ∷ [])
-unmarked-tests s i e =
-    ap (λ (b : Bool). needs b 9 ∷ needs (aligned (s .vbar)) 10 ∷ needs (writable i (s .ttbcr)) 11 ∷ needs (addressFits i) 12 ∷ [])
-    (ap (λ (m : Marks). sound m (s .status)) e ∙ unmarked-sound (s .status))
+module _ (s : Guest) (i : Injection) where
+  -- an injection by what looks at the marks: whether 9 passes, and the new status word
+  abbrev answerBy : Bool → Answer
+  answerBy passes =
+      decide
+      (needs passes UnsoundStatus
+      ∷ needs (aligned (s .vbar)) UnalignedVbar
+      ∷ needs (writable i (s .ttbcr)) UnwritableFault
+      ∷ needs (addressFits i) WideAddress
+      ∷ [])
+      Accepted
 
--- and so is the new status word, the one part of the new state that looks at the marks
-pub unmarked-status : (s : Guest) (i : Injection) → s .marks ≡ unmarked
-    → guestAfter s i .status ≡ baseEntryStatus (injectionRow i .mode) (injectionRow i .a) (s .status) (s .sctlr)
-unfolding entered
-unmarked-status s i e =
-    ap₂ (λ (m : Marks) (f : Bool). entryStatus m (injectionRow i .mode) (injectionRow i .a) f (s .status) (s .sctlr)) e (f-kept i)
-    ∙ unmarked-entry (injectionRow i .mode) (injectionRow i .a) (s .status) (s .sctlr)
+  abbrev injectedBy : Bool → ℕ → Injected
+  injectedBy passes status =
+      record {
+        answer = answerBy passes;
+        state = resulting (answerBy passes) s (enteredWith status s (injectionRow i) (faultsAfter i (s .faults) (s .ttbcr)));
+      }
+
+  -- A STATE WITH NO MARK behaves as before C-15: answer and whole state are the base's
+  pub unmarked-injected : s .marks ≡ unmarked → injected s i ≡ baseInjected s i
+  unfolding injected injectionAnswer entered baseInjected
+  unmarked-injected e =
+      ap₂ injectedBy
+      (ap (λ (m : Marks). sound m (s .status)) e ∙ unmarked-sound (s .status))
+      (ap₂ (λ (m : Marks) (f : Bool). entryStatus m (injectionRow i .mode) (injectionRow i .a) f (s .status) (s .sctlr)) e (f-kept i)
+      ∙ unmarked-entry (injectionRow i .mode) (injectionRow i .a) (s .status) (s .sctlr))

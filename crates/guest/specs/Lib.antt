@@ -3,5 +3,6 @@ pub mod Answer
 pub mod Injection
 pub mod Tests
 pub mod Inject
+pub mod Base
 pub mod Promise
 pub mod Inner
