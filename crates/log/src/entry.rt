@@ -7,9 +7,6 @@ ghost use Prim.Native.Nat.{_+_, _≤_, _<_};
 ghost use lib.ListN.{length, drop, getD};
 ghost use Rattle.log.specs.Section.{sizes};
 ghost use Rattle.log.specs.Look.{sectionAt, skipFrom, entryIn, lookAt};
-use address::Far;
-use address::Hpfar;
-use record::Esr;
 use super::number::eight;
 use super::section::ADDRESS;
 use super::section::EDITION;
@@ -17,6 +14,9 @@ use super::section::INJECTION;
 use super::section::SYNDROME;
 use super::section::Section;
 use super::section::front;
+use address::Far;
+use address::Hpfar;
+use record::Esr;
 
 pub struct Place {
     pub passed: u32,

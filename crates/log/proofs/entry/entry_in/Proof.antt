@@ -36,8 +36,8 @@ eight-requires-3 c κs =
 last-of : (c : tie.After-shared-slice-known3) → c .before .before .before .args .passed ≡ 3
 last-of c = omega (arith, c .before .before .before .pre, c .before .match .rest)
 
-shared-slice-read-t12 : tie.Need-shared-slice-read-t12
-shared-slice-read-t12 c =
+shared-slice-read-t15 : tie.Need-shared-slice-read-t15
+shared-slice-read-t15 c =
     let room = rw (last-of c) at (c .before .before .before .pre .1) in
     omega (arith, room)
 
@@ -70,7 +70,7 @@ entry-in-spec =
     eight-requires-2
     add-eight
     eight-requires-3
-    shared-slice-read-t12
+    shared-slice-read-t15
     returns
     returns-2
     returns-3
