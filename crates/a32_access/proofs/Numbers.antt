@@ -8,13 +8,14 @@ use native.Mathlib.Omega.{arith}
 use lib.Count.{ones, ones-step}
 use lib.Dec.{eqb, ltb}
 use borrow.Author.Tests.{ltb-true, ltb-false, lt-ltb, eqb-true, eqb-false, not-true}
+use Rattle.bits.specs.Among.{among}
 use Rattle.bits.specs.Field.{bitOf}
 use Rattle.bits.proofs.Booleans.{and-left, and-right}
 use Rattle.a32_fields.specs.Code.{codeOf, loads, dual}
 use Rattle.a32_fields.specs.declared.kinds.Transfer.{Transfer}
 use Rattle.a32_fields.specs.declared.kinds.Multiple.{Multiple}
 use Rattle.a32_fields.specs.declared.kinds.Fields.{Fields}
-use Rattle.a32_rule.specs.Rule.{among, pair, pairRule, writesBack, pwRule, backRule, immediateRule, registerRule}
+use Rattle.a32_rule.specs.Rule.{pair, pairRule, writesBack, pwRule, backRule, immediateRule, registerRule}
 use Rattle.a32_rule.specs.Inner.{immediateFits, narrow, targetRule, transferredBy}
 use Rattle.a32_rule.specs.Legal.{formRule, legal}
 use Rattle.a32_rule.proofs.Fits.{legal-immediate, legal-register, legal-literal, legal-multiple}

@@ -5,23 +5,19 @@ use mathlib.Core.Bool.{Bool, true, false, not, cond, _&&_, _||_, and-true}
 use mathlib.Core.List.{[], _∷_}
 use Prim.Native.Nat.{ℕ, _+_}
 use lib.Dec.{eqb}
+use Rattle.bits.specs.Among.{among}
+use Rattle.bits.proofs.Among.{among-after}
 use Rattle.a32_fields.specs.Code.{loads, dual}
 use Rattle.a32_fields.specs.declared.kinds.Transfer.{Transfer}
 use Rattle.a32_fields.specs.declared.kinds.Transfer.the-variants.{Ldr, Str, Ldrb, Strb, Ldrh, Strh, Ldrsb, Ldrsh, Ldrd, Strd}
-use Rattle.a32_rule.specs.Rule.{among, backRule, pairRule, immediateRule, registerRule, literalRule}
+use Rattle.a32_rule.specs.Rule.{backRule, pairRule, immediateRule, registerRule, literalRule}
 use Rattle.a32_rule.specs.Inner.{targetRule, transferredBy}
 
--- one of two and one of three, as code tests them
+-- one of two, as code tests them
 pub or-two : (a b : Bool) → (a || b) ≡ (a || (b || false))
 or-two true b = refl
 or-two false true = refl
 or-two false false = refl
-
-or-three : (a b c : Bool) → ((a || b) || c) ≡ (a || (b || (c || false)))
-or-three true b c = refl
-or-three false true c = refl
-or-three false false true = refl
-or-three false false false = refl
 
 or-last : (a b : Bool) → ((a || b) || false) ≡ (a || (b || false))
 or-last true b = refl
@@ -31,7 +27,7 @@ or-last false false = refl
 -- the base is 15, Rt or, of two registers, the second
 pub among-written : (n t : ℕ) (d : Bool)
     → ((eqb n 15 || eqb n t) || (d && eqb n (t + 1))) ≡ among (15 ∷ cond d (t ∷ (t + 1) ∷ []) (t ∷ [])) n
-among-written n t true = or-three (eqb n 15) (eqb n t) (eqb n (t + 1))
+among-written n t true = among-after false (15 ∷ t ∷ (t + 1) ∷ []) n
 among-written n t false = or-last (eqb n 15) (eqb n t)
 
 module _ (back : Bool) (n t : ℕ) where

@@ -4,6 +4,7 @@ use Prim.Native.Nat.{ℕ, _+_, _%_}
 use mathlib.Core.Bool.{Bool, true, false, not, _&&_, _||_}
 use mathlib.Core.List.{List, [], _∷_}
 use lib.Dec.{eqb}
+use Rattle.bits.specs.Among.{among}
 use Rattle.bits.specs.Field.{bitOf}
 use Rattle.a32_fields.specs.declared.kinds.Transfer.{Transfer}
 use Rattle.a32_fields.specs.declared.kinds.Transfer.the-variants.{Ldr, Str, Ldrb, Strb, Ldrh, Strh, Ldrsb, Ldrsh, Ldrd, Strd}
@@ -15,11 +16,6 @@ pwRule p w = p || not w
 -- the base is written back: post-indexed or pre-indexed
 abbrev pub writesBack : Bool → Bool → Bool
 writesBack p w = not p || w
-
--- a number is one of some registers
-abbrev pub among : List ℕ → ℕ → Bool
-among [] n = false
-among (k ∷ ks) n = eqb n k || among ks n
 
 -- a base that is written back is neither 15 nor transferred
 abbrev pub backRule : Bool → ℕ → List ℕ → Bool

@@ -2,10 +2,8 @@
 -- Assumes nothing.
 use mathlib.Core.Path.{_≡_, refl, sym, subst}
 use mathlib.Core.Bool.{Bool, true, false, _&&_, _||_, true≢false}
-use mathlib.Core.Logic.{_⊎_, inl, inr, ⊎-elim}
-use Prim.Native.Nat.{ℕ}
-use borrow.Author.Tests.{eqb-true}
-use lib.Dec.{T, eqb}
+use mathlib.Core.Logic.{_⊎_, inl, inr}
+use lib.Dec.{T}
 
 pub both-left : (a b : Bool) → T (a && b) → T a
 both-left true b t = tt
@@ -26,6 +24,10 @@ and-right false b e = absurd (true≢false (sym e))
 pub holds : {b : Bool} → b ≡ true → T b
 holds e = subst T (sym e) tt
 
+pub is-true : (b : Bool) → T b → b ≡ true
+is-true true t = refl
+is-true false t = absurd t
+
 -- what can't be true is false
 pub not-true-false : (b : Bool) → (b ≡ true → ⊥) → b ≡ false
 not-true-false true n = absurd (n refl)
@@ -39,12 +41,3 @@ either false b e = inr e
 pub either-false : (a b : Bool) → (a || b) ≡ false → a ≡ false
 either-false true b e = e
 either-false false b e = refl
-
--- a number in a row of two or three
-pub one-of-two : (c i j : ℕ) (P : ℕ → Type 0) → P i → P j → (eqb c i || eqb c j) ≡ true → P c
-one-of-two c i j P pi pj e =
-    ⊎-elim (λ h. subst P (sym (eqb-true c i h)) pi) (λ h. subst P (sym (eqb-true c j h)) pj) (either (eqb c i) (eqb c j) e)
-
-pub one-of-three : (c i j k : ℕ) (P : ℕ → Type 0) → P i → P j → P k → (eqb c i || eqb c j || eqb c k) ≡ true → P c
-one-of-three c i j k P pi pj pk e =
-    ⊎-elim (one-of-two c i j P pi pj) (λ h. subst P (sym (eqb-true c k h)) pk) (either (eqb c i || eqb c j) (eqb c k) e)

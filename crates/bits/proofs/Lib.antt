@@ -1,4 +1,5 @@
 pub mod Booleans
+pub mod Among
 pub mod Arms
 pub mod Or
 pub mod Every

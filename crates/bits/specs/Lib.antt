@@ -1,4 +1,5 @@
 pub mod Field
 pub mod Layout
+pub mod Among
 pub mod Decide
 pub mod Inner

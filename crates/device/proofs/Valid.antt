@@ -15,13 +15,16 @@ use Rattle.edition.proofs.Masks.{some-or-none, mask-zero}
 use Rattle.iss.specs.Rule.{implies, abortRule, extensionRule, maintenanceRule}
 use Rattle.record.specs.declared.kinds.DataAbort.{DataAbort}
 use Rattle.record.specs.declared.kinds.Record.{Record}
+use Rattle.record.specs.declared.kinds.Sort.{Sort}
 use Rattle.record.specs.Fields.{fieldsOf}
+use Rattle.record.specs.Sort.{sortOf}
+use Rattle.record.proofs.Sorts.{data-abort-sort}
 use Rattle.rule.specs.Has.{has, editionsOf}
 use Rattle.rule.specs.Rule.{noSyndromeRule, validSyndromeRule, syndromeRule, dataRule}
 use Rattle.rule.proofs.Having.{has-fits, has-layout}
 use Rattle.device.specs.declared.access.Described.{Described}
 use Rattle.device.specs.declared.access.Described.the-variants.{Access, Nothing}
-use Rattle.device.specs.Finish.{had, describedOf}
+use Rattle.device.specs.Finish.{had, describedBy, describedOf}
 
 -- test 5 in plain words: some edition has the record, or none has
 pub had-some : (r : Record) → had r ≡ true → (e : ℕ) × (e < editions) × (has e r ≡ true)
@@ -79,21 +82,18 @@ module _ (a : DataAbort) (e : ℕ) (h : has e (Record.DataAbort a) ≡ true) (v 
       flip false e = refl
 
 -- only a data abort with ISV 1 describes an access
-pub only-valid : (r : Record) {a : DataAbort} → describedOf r ≡ Access a → (r ≡ Record.DataAbort a) × (a .isv ≡ true)
-only-valid (Record.Plain x) e = absurd-answer (cc)
-only-valid (Record.Wfx x) e = absurd-answer (cc)
-only-valid (Record.Mcr x) e = absurd-answer (cc)
-only-valid (Record.Mcrr x) e = absurd-answer (cc)
-only-valid (Record.Ldc x) e = absurd-answer (cc)
-only-valid (Record.Simd x) e = absurd-answer (cc)
-only-valid (Record.Call x) e = absurd-answer (cc)
-only-valid (Record.Smc x) e = absurd-answer (cc)
-only-valid (Record.InstructionAbort x) e = absurd-answer (cc)
-only-valid (Record.DataAbort x) {a} e = go (x .isv) refl e
+valid-sort : (s : Sort) {a : DataAbort} → describedBy s ≡ Access a → (s ≡ Sort.DataAbort a) × (a .isv ≡ true)
+valid-sort Sort.Plain e = absurd-answer (cc)
+valid-sort Sort.Addressed e = absurd-answer (cc)
+valid-sort (Sort.InstructionAbort x) e = absurd-answer (cc)
+valid-sort (Sort.DataAbort x) {a} e = go (x .isv) refl e
   where
-    go : (b : Bool) → x .isv ≡ b → cond b (Access x) Nothing ≡ Access a → (Record.DataAbort x ≡ Record.DataAbort a) × (a .isv ≡ true)
-    go true i q = let s : x ≡ a = cc in (ap Record.DataAbort s, ap (λ (d : DataAbort). d .isv) (sym s) ∙ i)
+    go : (b : Bool) → x .isv ≡ b → cond b (Access x) Nothing ≡ Access a → (Sort.DataAbort x ≡ Sort.DataAbort a) × (a .isv ≡ true)
+    go true i q = let s : x ≡ a = cc in (ap Sort.DataAbort s, ap (λ (d : DataAbort). d .isv) (sym s) ∙ i)
     go false i q = absurd-answer (cc)
+
+pub only-valid : (r : Record) {a : DataAbort} → describedOf r ≡ Access a → (r ≡ Record.DataAbort a) × (a .isv ≡ true)
+only-valid r e = let s = valid-sort (sortOf r) e in (data-abort-sort r (s .0), s .1)
 
 pub access-valid : (r : Record) {a : DataAbort} → had r ≡ true → describedOf r ≡ Access a → (a .srt < 31) × (a .sas < 3)
 access-valid r {a} h d =

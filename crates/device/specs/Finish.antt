@@ -6,7 +6,9 @@ use lib.Dec.{eqb}
 use Rattle.bits.specs.Decide.{Test, needs, decide}
 use Rattle.bits.specs.Field.{bitOf}
 use Rattle.record.specs.declared.kinds.DataAbort.{DataAbort}
+use Rattle.record.specs.Sort.{sortOf}
 use Rattle.record.specs.declared.kinds.Record.{Record}
+use Rattle.record.specs.declared.kinds.Sort.{Sort}
 use Rattle.rule.specs.Has.{editionsOf}
 use Rattle.status.specs.Sound.{sound}
 use Rattle.status.specs.It.{itAdvanced}
@@ -26,17 +28,14 @@ abbrev pub had : Record → Bool
 had r = not (eqb (editionsOf r) 0)
 
 -- 18: a data abort with ISV 1 describes its access, and no other record does
+abbrev pub describedBy : Sort → Described
+describedBy Sort.Plain = Nothing
+describedBy Sort.Addressed = Nothing
+describedBy (Sort.InstructionAbort r) = Nothing
+describedBy (Sort.DataAbort r) = cond (r .isv) (Access r) Nothing
+
 abbrev pub describedOf : Record → Described
-describedOf (Record.Plain r) = Nothing
-describedOf (Record.Wfx r) = Nothing
-describedOf (Record.Mcr r) = Nothing
-describedOf (Record.Mcrr r) = Nothing
-describedOf (Record.Ldc r) = Nothing
-describedOf (Record.Simd r) = Nothing
-describedOf (Record.Call r) = Nothing
-describedOf (Record.Smc r) = Nothing
-describedOf (Record.InstructionAbort r) = Nothing
-describedOf (Record.DataAbort r) = cond (r .isv) (Access r) Nothing
+describedOf r = describedBy (sortOf r)
 
 abbrev pub isAccess : Described → Bool
 isAccess (Access r) = true

@@ -11,6 +11,7 @@ use exception::register;
 use exception::with_register;
 use record::DataAbort;
 use record::Record;
+use record::Sort;
 use status::it_advanced;
 use status::sound;
 use std::num::wrapping_add_u32;
@@ -29,17 +30,11 @@ pub(crate) enum Described {
 fn described_of(what: Record) -> Described
     ensures { λ r. ⌜ r ≡ describedOf what ⌝ }
 {
-    match what {
-        Record::Plain(_) => Described::Nothing,
-        Record::Wfx(_) => Described::Nothing,
-        Record::Mcr(_) => Described::Nothing,
-        Record::Mcrr(_) => Described::Nothing,
-        Record::Ldc(_) => Described::Nothing,
-        Record::Simd(_) => Described::Nothing,
-        Record::Call(_) => Described::Nothing,
-        Record::Smc(_) => Described::Nothing,
-        Record::InstructionAbort(_) => Described::Nothing,
-        Record::DataAbort(abort) => {
+    match record::sort(what) {
+        Sort::Plain => Described::Nothing,
+        Sort::Addressed => Described::Nothing,
+        Sort::InstructionAbort(_) => Described::Nothing,
+        Sort::DataAbort(abort) => {
             if abort.isv {
                 Described::Access(abort)
             } else {

@@ -7,9 +7,9 @@ use lib.Dec.{T, eqb, lit≤}
 use Rattle.bits.specs.Field.{fieldOf, bitOf, digit}
 use Rattle.bits.specs.Layout.{fitting, ordered}
 use Rattle.bits.specs.Inner.{joinedFrom}
-use Rattle.bits.proofs.Booleans.{one-of-two, one-of-three}
+use Rattle.bits.proofs.Among.{among-each, among-all, among-other}
 use Rattle.bits.proofs.Fields.{AllBack, all-back, word-below, joined-word, flag-back}
-use Rattle.record.specs.Class.{isClass, headOf}
+use Rattle.record.specs.Class.{isClass, plainClasses, mcrClasses, mcrrClasses, callClasses, headOf}
 use Rattle.record.specs.Fields.{plainFields, wfxFields, callFields, smcFields, fieldsOf, recordWord}
 use Rattle.record.specs.Split.{plainAt, wfxAt, mcrAt, mcrrAt, callAt, smcAt, recordOf, recordAt}
 use Rattle.record.specs.declared.kinds.Plain.{Plain}
@@ -71,14 +71,14 @@ module _ (w : ℕ) where
   unfolding recordOf
   at-bits (Record.Plain r) own b =
       ap (λ (c : ℕ). recordOf c w) (b .0)
-      ∙ one-of-three (r .class) 0x00 0x0E 0x22 (λ c. recordOf c w ≡ Record.Plain (plainAt c w)) refl refl refl own
+      ∙ among-each plainClasses (λ c. recordOf c w ≡ Record.Plain (plainAt c w)) (refl, (refl, (refl, tt))) (r .class) own
       ∙ ap Record.Plain (plain-back r b)
   at-bits (Record.Wfx r) own b =
       ap (λ (c : ℕ). recordOf c w) (b .0)
       ∙ ap Record.Wfx (wfx-back r b)
   at-bits (Record.Mcr r) own b =
       ap (λ (c : ℕ). recordOf c w) (b .0)
-      ∙ one-of-three (r .class) 0x03 0x05 0x08 (λ c. recordOf c w ≡ Record.Mcr (mcrAt c w)) refl refl refl own
+      ∙ among-each mcrClasses (λ c. recordOf c w ≡ Record.Mcr (mcrAt c w)) (refl, (refl, (refl, tt))) (r .class) own
       ∙ ap Record.Mcr
       (λ i. record {
         class = r .class;
@@ -94,7 +94,7 @@ module _ (w : ℕ) where
       })
   at-bits (Record.Mcrr r) own b =
       ap (λ (c : ℕ). recordOf c w) (b .0)
-      ∙ one-of-two (r .class) 0x04 0x0C (λ c. recordOf c w ≡ Record.Mcrr (mcrrAt c w)) refl refl own
+      ∙ among-each mcrrClasses (λ c. recordOf c w ≡ Record.Mcrr (mcrrAt c w)) (refl, (refl, tt)) (r .class) own
       ∙ ap Record.Mcrr
       (λ i. record {
         class = r .class;
@@ -130,7 +130,7 @@ module _ (w : ℕ) where
       })
   at-bits (Record.Call r) own b =
       ap (λ (c : ℕ). recordOf c w) (b .0)
-      ∙ one-of-two (r .class) 0x11 0x12 (λ c. recordOf c w ≡ Record.Call (callAt c w)) refl refl own
+      ∙ among-each callClasses (λ c. recordOf c w ≡ Record.Call (callAt c w)) (refl, (refl, tt)) (r .class) own
       ∙ ap Record.Call (call-back r b)
   at-bits (Record.Smc r) own b =
       ap (λ (c : ℕ). recordOf c w) (b .0)
@@ -199,17 +199,13 @@ module _ (w : ℕ) where
   -- a test of the class and ISV, which asks for ISV at class 0x24 alone, says the same of bit 24 of the word
   isv-at : (test : ℕ → Bool → Bool) → ((c : ℕ) → eqb c 0x24 ≡ false → (a b : Bool) → test c a ≡ test c b) → (r : Record) → headOf r .own ≡ true
       → AllBack w (fieldsOf r) → test (headOf r .class) (bitOf w 24) ≡ test (headOf r .class) (headOf r .isv)
-  isv-at test ignores (Record.Plain r) own b =
-      one-of-three (r .class) 0x00 0x0E 0x22 (λ c. test c (bitOf w 24) ≡ test c false) (ignores 0x00 refl _ _) (ignores 0x0E refl _ _) (ignores 0x22 refl _ _) own
+  isv-at test ignores (Record.Plain r) own b = ignores (r .class) (among-other plainClasses 0x24 tt (r .class) own) _ _
   isv-at test ignores (Record.Wfx r) own b = ignores 0x01 refl _ _
-  isv-at test ignores (Record.Mcr r) own b =
-      one-of-three (r .class) 0x03 0x05 0x08 (λ c. test c (bitOf w 24) ≡ test c false) (ignores 0x03 refl _ _) (ignores 0x05 refl _ _) (ignores 0x08 refl _ _) own
-  isv-at test ignores (Record.Mcrr r) own b =
-      one-of-two (r .class) 0x04 0x0C (λ c. test c (bitOf w 24) ≡ test c false) (ignores 0x04 refl _ _) (ignores 0x0C refl _ _) own
+  isv-at test ignores (Record.Mcr r) own b = ignores (r .class) (among-other mcrClasses 0x24 tt (r .class) own) _ _
+  isv-at test ignores (Record.Mcrr r) own b = ignores (r .class) (among-other mcrrClasses 0x24 tt (r .class) own) _ _
   isv-at test ignores (Record.Ldc r) own b = ignores 0x06 refl _ _
   isv-at test ignores (Record.Simd r) own b = ignores 0x07 refl _ _
-  isv-at test ignores (Record.Call r) own b =
-      one-of-two (r .class) 0x11 0x12 (λ c. test c (bitOf w 24) ≡ test c false) (ignores 0x11 refl _ _) (ignores 0x12 refl _ _) own
+  isv-at test ignores (Record.Call r) own b = ignores (r .class) (among-other callClasses 0x24 tt (r .class) own) _ _
   isv-at test ignores (Record.Smc r) own b = ignores 0x13 refl _ _
   isv-at test ignores (Record.InstructionAbort r) own b = ignores 0x20 refl _ _
   isv-at test ignores (Record.DataAbort r) own b = ap (test 0x24) (flag-back w 24 (r .isv) (b .1 .1 .0))
@@ -227,13 +223,13 @@ head-test test ignores r own fits =
 
 -- a record's own class is one of the build's, and stands at EC
 pub class-known : (r : Record) → headOf r .own ≡ true → isClass (headOf r .class) ≡ true
-class-known (Record.Plain r) own = one-of-three (r .class) 0x00 0x0E 0x22 (λ c. isClass c ≡ true) refl refl refl own
+class-known (Record.Plain r) own = among-all plainClasses isClass tt (r .class) own
 class-known (Record.Wfx r) own = refl
-class-known (Record.Mcr r) own = one-of-three (r .class) 0x03 0x05 0x08 (λ c. isClass c ≡ true) refl refl refl own
-class-known (Record.Mcrr r) own = one-of-two (r .class) 0x04 0x0C (λ c. isClass c ≡ true) refl refl own
+class-known (Record.Mcr r) own = among-all mcrClasses isClass tt (r .class) own
+class-known (Record.Mcrr r) own = among-all mcrrClasses isClass tt (r .class) own
 class-known (Record.Ldc r) own = refl
 class-known (Record.Simd r) own = refl
-class-known (Record.Call r) own = one-of-two (r .class) 0x11 0x12 (λ c. isClass c ≡ true) refl refl own
+class-known (Record.Call r) own = among-all callClasses isClass tt (r .class) own
 class-known (Record.Smc r) own = refl
 class-known (Record.InstructionAbort r) own = refl
 class-known (Record.DataAbort r) own = refl

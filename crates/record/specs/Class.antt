@@ -1,8 +1,8 @@
 -- The exception classes of the build (01, 'What the build covers' and 'Layout of the word'), by kind of record.
 use Prim.Native.Nat.{ℕ}
-use mathlib.Core.Bool.{Bool, true, false, _||_}
+use mathlib.Core.Bool.{Bool, true, false}
 use mathlib.Core.List.{List, [], _∷_}
-use lib.Dec.{eqb}
+use Rattle.bits.specs.Among.{among}
 use Rattle.record.specs.declared.kinds.Record.{Record}
 use Rattle.record.specs.declared.kinds.Head.{Head}
 
@@ -11,39 +11,34 @@ abbrev pub classes : List ℕ
 classes =
     0x00 ∷ 0x01 ∷ 0x03 ∷ 0x04 ∷ 0x05 ∷ 0x06 ∷ 0x07 ∷ 0x08 ∷ 0x0C ∷ 0x0E ∷ 0x11 ∷ 0x12 ∷ 0x13 ∷ 0x20 ∷ 0x22 ∷ 0x24 ∷ []
 
--- a number stands in a list
-abbrev pub among : List ℕ → ℕ → Bool
-among [] c = false
-among (k ∷ ks) c = eqb c k || among ks c
-
 abbrev pub isClass : ℕ → Bool
 isClass c = among classes c
 
 -- the kinds with several classes
-abbrev pub plainClass : ℕ → Bool
-plainClass c = eqb c 0x00 || eqb c 0x0E || eqb c 0x22
+abbrev pub plainClasses : List ℕ
+plainClasses = 0x00 ∷ 0x0E ∷ 0x22 ∷ []
 
-abbrev pub mcrClass : ℕ → Bool
-mcrClass c = eqb c 0x03 || eqb c 0x05 || eqb c 0x08
+abbrev pub mcrClasses : List ℕ
+mcrClasses = 0x03 ∷ 0x05 ∷ 0x08 ∷ []
 
-abbrev pub mcrrClass : ℕ → Bool
-mcrrClass c = eqb c 0x04 || eqb c 0x0C
+abbrev pub mcrrClasses : List ℕ
+mcrrClasses = 0x04 ∷ 0x0C ∷ []
 
-abbrev pub callClass : ℕ → Bool
-callClass c = eqb c 0x11 || eqb c 0x12
+abbrev pub callClasses : List ℕ
+callClasses = 0x11 ∷ 0x12 ∷ []
 
 abbrev pub withoutIsv : ℕ → Bool → Bool → Head
 withoutIsv class own il = record { class = class; own = own; il = il; isv = false }
 
 -- a record's class, whether its kind has that class, IL, and ISV, which a data abort alone has
 abbrev pub headOf : Record → Head
-headOf (Record.Plain r) = withoutIsv (r .class) (plainClass (r .class)) (r .il)
+headOf (Record.Plain r) = withoutIsv (r .class) (among plainClasses (r .class)) (r .il)
 headOf (Record.Wfx r) = withoutIsv 0x01 true (r .il)
-headOf (Record.Mcr r) = withoutIsv (r .class) (mcrClass (r .class)) (r .il)
-headOf (Record.Mcrr r) = withoutIsv (r .class) (mcrrClass (r .class)) (r .il)
+headOf (Record.Mcr r) = withoutIsv (r .class) (among mcrClasses (r .class)) (r .il)
+headOf (Record.Mcrr r) = withoutIsv (r .class) (among mcrrClasses (r .class)) (r .il)
 headOf (Record.Ldc r) = withoutIsv 0x06 true (r .il)
 headOf (Record.Simd r) = withoutIsv 0x07 true (r .il)
-headOf (Record.Call r) = withoutIsv (r .class) (callClass (r .class)) (r .il)
+headOf (Record.Call r) = withoutIsv (r .class) (among callClasses (r .class)) (r .il)
 headOf (Record.Smc r) = withoutIsv 0x13 true (r .il)
 headOf (Record.InstructionAbort r) = withoutIsv 0x20 true (r .il)
 headOf (Record.DataAbort r) = record { class = 0x24; own = true; il = r .il; isv = r .isv }

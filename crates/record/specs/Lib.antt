@@ -1,4 +1,5 @@
 pub mod Class
 pub mod Fields
+pub mod Sort
 pub mod Addresses
 pub mod Split

@@ -4,8 +4,9 @@
 use Prim.Native.Nat.{ℕ}
 use mathlib.Core.Bool.{cond}
 use lib.Dec.{eqb}
+use Rattle.bits.specs.Among.{among}
 use Rattle.bits.specs.Field.{bitOf, fieldOf}
-use Rattle.record.specs.Class.{mcrClass, mcrrClass, callClass}
+use Rattle.record.specs.Class.{mcrClasses, mcrrClasses, callClasses}
 use Rattle.record.specs.declared.kinds.Plain.{Plain}
 use Rattle.record.specs.declared.kinds.Wfx.{Wfx}
 use Rattle.record.specs.declared.kinds.Mcr.{Mcr}
@@ -109,11 +110,11 @@ dataAbortAt w =
 unfoldable pub recordOf : ℕ → ℕ → Record
 recordOf class w =
     cond (eqb class 0x01) (Record.Wfx (wfxAt w))
-    (cond (mcrClass class) (Record.Mcr (mcrAt class w))
-    (cond (mcrrClass class) (Record.Mcrr (mcrrAt class w))
+    (cond (among mcrClasses class) (Record.Mcr (mcrAt class w))
+    (cond (among mcrrClasses class) (Record.Mcrr (mcrrAt class w))
     (cond (eqb class 0x06) (Record.Ldc (ldcAt w))
     (cond (eqb class 0x07) (Record.Simd (simdAt w))
-    (cond (callClass class) (Record.Call (callAt class w))
+    (cond (among callClasses class) (Record.Call (callAt class w))
     (cond (eqb class 0x13) (Record.Smc (smcAt w))
     (cond (eqb class 0x20) (Record.InstructionAbort (instructionAbortAt w))
     (cond (eqb class 0x24) (Record.DataAbort (dataAbortAt w))

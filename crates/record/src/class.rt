@@ -1,29 +1,30 @@
-// Which classes there are, and which each kind of record has.
+// Which classes there are, and which each kind of record has. The kinds with several classes have them in both forms alike, but for the calls.
 ghost use mathlib.Core.Path.{_≡_};
-ghost use Rattle.record.specs.Class.{isClass, plainClass, mcrClass, mcrrClass, callClass, withoutIsv, headOf};
+ghost use Rattle.bits.specs.Among.{among};
+ghost use Rattle.record.specs.Class.{isClass, plainClasses, mcrClasses, mcrrClasses, callClasses, withoutIsv, headOf};
 use super::kinds::Head;
 use super::kinds::Record;
 
-fn plain_class(class: u32) -> bool
-    ensures { λ r. ⌜ r ≡ plainClass class ⌝ }
+pub fn plain_class(class: u32) -> bool
+    ensures { λ r. ⌜ r ≡ among plainClasses class ⌝ }
 {
     (class == 0x00) | (class == 0x0E) | (class == 0x22)
 }
 
-fn mcr_class(class: u32) -> bool
-    ensures { λ r. ⌜ r ≡ mcrClass class ⌝ }
+pub fn mcr_class(class: u32) -> bool
+    ensures { λ r. ⌜ r ≡ among mcrClasses class ⌝ }
 {
     (class == 0x03) | (class == 0x05) | (class == 0x08)
 }
 
-fn mcrr_class(class: u32) -> bool
-    ensures { λ r. ⌜ r ≡ mcrrClass class ⌝ }
+pub fn mcrr_class(class: u32) -> bool
+    ensures { λ r. ⌜ r ≡ among mcrrClasses class ⌝ }
 {
     (class == 0x04) | (class == 0x0C)
 }
 
 fn call_class(class: u32) -> bool
-    ensures { λ r. ⌜ r ≡ callClass class ⌝ }
+    ensures { λ r. ⌜ r ≡ among callClasses class ⌝ }
 {
     (class == 0x11) | (class == 0x12)
 }

@@ -129,6 +129,15 @@ pub struct Head {
     pub isv: bool,
 }
 
+// What sort of exception a record tells of, as far as rules beyond its layout go by it: a plain one; one that is no abort and has a virtual address, a PC
+// alignment fault; or an abort, with its fields.
+pub enum Sort {
+    Plain,
+    Addressed,
+    InstructionAbort(InstructionAbort),
+    DataAbort(DataAbort),
+}
+
 // What the address registers tell: nothing; FAR, the virtual address; or what an abort's FnV, S1PTW and fault code say of FAR and HPFAR.
 pub enum Addresses {
     None,

@@ -7,6 +7,9 @@ mod told;
 
 pub use class::head;
 pub use class::is_class;
+pub use class::mcr_class;
+pub use class::mcrr_class;
+pub use class::plain_class;
 pub use class::without_isv;
 pub use join::joined;
 pub use kinds::Addresses;
@@ -22,6 +25,8 @@ pub use kinds::Plain;
 pub use kinds::Record;
 pub use kinds::Simd;
 pub use kinds::Smc;
+pub use kinds::Sort;
 pub use kinds::Wfx;
 pub use split::record_at;
 pub use told::addresses;
+pub use told::sort;

@@ -1,34 +1,48 @@
-// What a record tells of the address registers.
+// What a record tells beside its layout: the sort of exception, and by it what the address registers hold.
 ghost use mathlib.Core.Path.{_≡_};
+ghost use Rattle.record.specs.Sort.{sortOf};
 ghost use Rattle.record.specs.Addresses.{addressesOf};
 use super::kinds::Addresses;
 use super::kinds::Record;
+use super::kinds::Sort;
+
+// The one place that goes by the kind for what isn't layout.
+pub fn sort(r: Record) -> Sort
+    ensures { λ s. ⌜ s ≡ sortOf r ⌝ }
+{
+    match r {
+        Record::Plain(x) => {
+            if x.class == 0x22 {
+                Sort::Addressed
+            } else {
+                Sort::Plain
+            }
+        }
+        Record::Wfx(_) => Sort::Plain,
+        Record::Mcr(_) => Sort::Plain,
+        Record::Mcrr(_) => Sort::Plain,
+        Record::Ldc(_) => Sort::Plain,
+        Record::Simd(_) => Sort::Plain,
+        Record::Call(_) => Sort::Plain,
+        Record::Smc(_) => Sort::Plain,
+        Record::InstructionAbort(x) => Sort::InstructionAbort(x),
+        Record::DataAbort(x) => Sort::DataAbort(x),
+    }
+}
 
 // Only an abort and a PC alignment fault, class 0x22, have an address.
 pub fn addresses(r: Record) -> Addresses
     ensures { λ a. ⌜ a ≡ addressesOf r ⌝ }
 {
-    match r {
-        Record::Plain(x) => {
-            if x.class == 0x22 {
-                Addresses::Virtual
-            } else {
-                Addresses::None
-            }
-        }
-        Record::Wfx(_) => Addresses::None,
-        Record::Mcr(_) => Addresses::None,
-        Record::Mcrr(_) => Addresses::None,
-        Record::Ldc(_) => Addresses::None,
-        Record::Simd(_) => Addresses::None,
-        Record::Call(_) => Addresses::None,
-        Record::Smc(_) => Addresses::None,
-        Record::InstructionAbort(x) => Addresses::Abort {
+    match sort(r) {
+        Sort::Plain => Addresses::None,
+        Sort::Addressed => Addresses::Virtual,
+        Sort::InstructionAbort(x) => Addresses::Abort {
             fnv: x.fnv,
             s1ptw: x.s1ptw,
             code: x.code,
         },
-        Record::DataAbort(x) => Addresses::Abort {
+        Sort::DataAbort(x) => Addresses::Abort {
             fnv: x.fnv,
             s1ptw: x.s1ptw,
             code: x.code,

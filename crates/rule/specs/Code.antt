@@ -4,7 +4,9 @@ use mathlib.Core.Bool.{Bool, true, not, _&&_, _||_}
 use lib.Dec.{eqb}
 use Rattle.edition.specs.Feature.{ras, lpa2, hafdbs}
 use Rattle.iss.specs.Rule.{between, isvCode}
+use Rattle.record.specs.Sort.{sortOf}
 use Rattle.record.specs.declared.kinds.Record.{Record}
+use Rattle.record.specs.declared.kinds.Sort.{Sort}
 
 -- the rows of the table of fault codes
 abbrev pub everywhere : ℕ → Bool
@@ -38,14 +40,12 @@ setRule e set code = eqb set 0 || ras e && (eqb code 0x10 && (eqb set 2 || eqb s
 abbrev pub isvRule : ℕ → Bool → ℕ → Bool
 isvRule e isv code = isvCode (ras e) isv code
 
+-- only an abort's rules go by the edition
+abbrev pub sortRule : ℕ → Sort → Bool
+sortRule e Sort.Plain = true
+sortRule e Sort.Addressed = true
+sortRule e (Sort.InstructionAbort r) = instructionCode e (r .code) && setRule e (r .set) (r .code)
+sortRule e (Sort.DataAbort r) = dataCode e (r .code) && setRule e (r .set) (r .code) && isvRule e (r .isv) (r .code)
+
 abbrev pub editionRule : ℕ → Record → Bool
-editionRule e (Record.Plain r) = true
-editionRule e (Record.Wfx r) = true
-editionRule e (Record.Mcr r) = true
-editionRule e (Record.Mcrr r) = true
-editionRule e (Record.Ldc r) = true
-editionRule e (Record.Simd r) = true
-editionRule e (Record.Call r) = true
-editionRule e (Record.Smc r) = true
-editionRule e (Record.InstructionAbort r) = instructionCode e (r .code) && setRule e (r .set) (r .code)
-editionRule e (Record.DataAbort r) = dataCode e (r .code) && setRule e (r .set) (r .code) && isvRule e (r .isv) (r .code)
+editionRule e r = sortRule e (sortOf r)

@@ -10,6 +10,7 @@ use edition::HAFDBS;
 use edition::LPA2;
 use edition::RAS;
 use record::Record;
+use record::Sort;
 
 const NO_RAS: u32 = ALL - RAS;
 
@@ -203,19 +204,11 @@ fn isv_rule(isv: bool, code: u32) -> u32
 fn edition_rule(r: Record) -> u32
     ensures { λ m. ⌜ m ≡ maskOf (λ e. editionRule e r) ⌝ }
 {
-    match r {
-        Record::Plain(_) => edition::all_editions(),
-        Record::Wfx(_) => edition::all_editions(),
-        Record::Mcr(_) => edition::all_editions(),
-        Record::Mcrr(_) => edition::all_editions(),
-        Record::Ldc(_) => edition::all_editions(),
-        Record::Simd(_) => edition::all_editions(),
-        Record::Call(_) => edition::all_editions(),
-        Record::Smc(_) => edition::all_editions(),
-        Record::InstructionAbort(x) => instruction_code(x.code) & set_rule(x.set, x.code),
-        Record::DataAbort(x) => data_code(x.code)
-            & set_rule(x.set, x.code)
-            & isv_rule(x.isv, x.code),
+    match record::sort(r) {
+        Sort::Plain => edition::all_editions(),
+        Sort::Addressed => edition::all_editions(),
+        Sort::InstructionAbort(x) => instruction_code(x.code) & set_rule(x.set, x.code),
+        Sort::DataAbort(x) => data_code(x.code) & set_rule(x.set, x.code) & isv_rule(x.isv, x.code),
     }
 }
 

@@ -1,9 +1,9 @@
 -- The exception classes of the short form (request C-11 of document 02: those of document 01, all of which source 004 has), by kind of record.
 use Prim.Native.Nat.{ℕ}
-use mathlib.Core.Bool.{Bool, true, _||_}
+use mathlib.Core.Bool.{Bool, true}
 use mathlib.Core.List.{List, [], _∷_}
-use lib.Dec.{eqb}
-use Rattle.record.specs.Class.{among, withoutIsv}
+use Rattle.bits.specs.Among.{among}
+use Rattle.record.specs.Class.{plainClasses, mcrClasses, mcrrClasses, withoutIsv}
 use Rattle.record.specs.declared.kinds.Head.{Head}
 use Rattle.short_record.specs.declared.kinds.Record.{Record}
 
@@ -15,28 +15,19 @@ classes =
 abbrev pub isClass : ℕ → Bool
 isClass c = among classes c
 
--- the kinds with several classes
-abbrev pub plainClass : ℕ → Bool
-plainClass c = eqb c 0x00 || eqb c 0x0E || eqb c 0x22
-
-abbrev pub mcrClass : ℕ → Bool
-mcrClass c = eqb c 0x03 || eqb c 0x05 || eqb c 0x08
-
-abbrev pub mcrrClass : ℕ → Bool
-mcrrClass c = eqb c 0x04 || eqb c 0x0C
-
-abbrev pub callClass : ℕ → Bool
-callClass c = eqb c 0x11 || eqb c 0x12
+-- of the kinds with several classes the calls have classes of their own; the others have the long form's
+abbrev pub callClasses : List ℕ
+callClasses = 0x11 ∷ 0x12 ∷ []
 
 -- a record's class, whether its kind has that class, IL, and ISV, which a data abort alone has
 abbrev pub headOf : Record → Head
-headOf (Record.Plain r) = withoutIsv (r .class) (plainClass (r .class)) (r .il)
+headOf (Record.Plain r) = withoutIsv (r .class) (among plainClasses (r .class)) (r .il)
 headOf (Record.Wfx r) = withoutIsv 0x01 true (r .il)
-headOf (Record.Mcr r) = withoutIsv (r .class) (mcrClass (r .class)) (r .il)
-headOf (Record.Mcrr r) = withoutIsv (r .class) (mcrrClass (r .class)) (r .il)
+headOf (Record.Mcr r) = withoutIsv (r .class) (among mcrClasses (r .class)) (r .il)
+headOf (Record.Mcrr r) = withoutIsv (r .class) (among mcrrClasses (r .class)) (r .il)
 headOf (Record.Ldc r) = withoutIsv 0x06 true (r .il)
 headOf (Record.Simd r) = withoutIsv 0x07 true (r .il)
-headOf (Record.Call r) = withoutIsv (r .class) (callClass (r .class)) (r .il)
+headOf (Record.Call r) = withoutIsv (r .class) (among callClasses (r .class)) (r .il)
 headOf (Record.Smc r) = withoutIsv 0x13 true (r .il)
 headOf (Record.InstructionAbort r) = withoutIsv 0x20 true (r .il)
 headOf (Record.DataAbort r) = record { class = 0x24; own = true; il = r .il; isv = r .isv }

@@ -1,30 +1,16 @@
 // Which classes the short form has, and which each kind of record has.
 ghost use mathlib.Core.Path.{_≡_};
-ghost use Rattle.short_record.specs.Class.{isClass, plainClass, mcrClass, mcrrClass, callClass, headOf};
+ghost use Rattle.bits.specs.Among.{among};
+ghost use Rattle.short_record.specs.Class.{isClass, callClasses, headOf};
 use super::kinds::Record;
 use record::Head;
+use record::mcr_class;
+use record::mcrr_class;
+use record::plain_class;
 use record::without_isv;
 
-fn plain_class(class: u32) -> bool
-    ensures { λ r. ⌜ r ≡ plainClass class ⌝ }
-{
-    (class == 0x00) | (class == 0x0E) | (class == 0x22)
-}
-
-fn mcr_class(class: u32) -> bool
-    ensures { λ r. ⌜ r ≡ mcrClass class ⌝ }
-{
-    (class == 0x03) | (class == 0x05) | (class == 0x08)
-}
-
-fn mcrr_class(class: u32) -> bool
-    ensures { λ r. ⌜ r ≡ mcrrClass class ⌝ }
-{
-    (class == 0x04) | (class == 0x0C)
-}
-
 fn call_class(class: u32) -> bool
-    ensures { λ r. ⌜ r ≡ callClass class ⌝ }
+    ensures { λ r. ⌜ r ≡ among callClasses class ⌝ }
 {
     (class == 0x11) | (class == 0x12)
 }

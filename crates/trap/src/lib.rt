@@ -1,7 +1,7 @@
 // The whole trap: a syndrome with exactly the addresses that are known.
 ghost use mathlib.Core.Path.{_≡_};
 ghost use Rattle.trap.specs.Numbers.{trapNumber, trapMask, trapCount};
-ghost use Rattle.trap.specs.Trap.{trapOf};
+ghost use Rattle.trap.specs.Trap.{trapFrom};
 ghost use Rattle.trap.specs.Answer.{answerRecord, TrapReading};
 ghost use Rattle.trap.specs.Both.{BothReading};
 use address::Far;
@@ -83,10 +83,9 @@ pub fn count(refusal: TrapRefusal) -> u32
 }
 
 // The trap of a record, with the addresses that it makes known.
-fn trap_of(r: Record, far: Far, hpfar: Hpfar) -> Trap
-    ensures { λ t. ⌜ t ≡ trapOf r far hpfar ⌝ }
+fn trap_from(known: Addresses, r: Record, far: Far, hpfar: Hpfar) -> Trap
+    ensures { λ t. ⌜ t ≡ trapFrom known r far hpfar ⌝ }
 {
-    let known = record::addresses(r);
     match known {
         Addresses::None => Trap::Plain(r),
         Addresses::Virtual => Trap::Addressed(Addressed {
@@ -120,7 +119,7 @@ fn answer_record(edition: u32, r: Record, far: Far, hpfar: Hpfar) -> Answer
     if address::far_counts(known) & !address::far_rule(far) {
         return Answer::Refused(TrapRefusal::Far);
     }
-    Answer::Shown(trap_of(r, far, hpfar))
+    Answer::Shown(trap_from(known, r, far, hpfar))
 }
 
 // Reads a whole trap, from all three registers, in an edition.

@@ -14,7 +14,7 @@ use Rattle.address.specs.Known.{farCounts, hpfarCounts}
 use Rattle.address.specs.Page.{hpfarRule, farRule}
 use Rattle.address.specs.declared.Far.{Far}
 use Rattle.address.specs.declared.Hpfar.{Hpfar}
-use Rattle.trap.specs.Trap.{trapOf}
+use Rattle.trap.specs.Trap.{trapFrom, trapOf}
 use Rattle.trap.specs.Answer.{hpfarRight, farRight, answerRecord}
 use Rattle.trap.specs.declared.TrapRefusal.{TrapRefusal}
 use Rattle.trap.specs.declared.Answer.{Answer}
@@ -73,8 +73,8 @@ returns-2 c =
     (hpfar-test (a .edition) (a .r) (a .hpfar) (at .addresses .ensures) (h .before .before .hpfar-counts .ensures) (h .before .hpfar-rule .ensures) (h .if1 .left))
     (far-test (a .r) (a .far) (at .addresses .ensures) (c .before .before .far-counts .ensures) (c .before .far-rule .ensures) (c .if2 .taken))
 
-trap-of-requires : tie.Need-trap-of-requires
-trap-of-requires c κs = search needs
+trap-from-requires : tie.Need-trap-from-requires
+trap-from-requires c κs = search needs
 
 returns-3 : tie.Need-returns-3
 returns-3 c =
@@ -82,7 +82,7 @@ returns-3 c =
     let h = f .before .before .before in
     let at = h .before .before .before in
     let a = at .before .args in
-    ap Answer.Shown (c .trap-of .ensures)
+    ap Answer.Shown (c .trap-from .ensures ∙ ap (λ (k : Addresses). trapFrom k (a .r) (a .far) (a .hpfar)) (at .addresses .ensures))
     ∙ by-tests (a .edition) (a .r) (a .far) (a .hpfar)
     (hpfar-test (a .edition) (a .r) (a .hpfar) (at .addresses .ensures) (h .before .before .hpfar-counts .ensures) (h .before .hpfar-rule .ensures) (h .if1 .left))
     (far-test (a .r) (a .far) (at .addresses .ensures) (f .before .before .far-counts .ensures) (f .before .far-rule .ensures) (f .if2 .left))
@@ -98,5 +98,5 @@ answer-record-spec =
     far-counts-requires
     far-rule-requires
     returns-2
-    trap-of-requires
+    trap-from-requires
     returns-3)

@@ -1,17 +1,21 @@
--- `record::told::addresses` meets its contract: each arm tells what its kind's fields say.
+-- `record::told::addresses` meets its contract: each arm tells what its sort's fields say.
 -- Assumes nothing.
 use borrow.Author.Needs.{needs}
-use mathlib.Core.Path.{refl, sym, ap}
-use mathlib.Core.Bool.{Bool, cond}
-use borrow.Author.Tests.{ne-eqb}
-use Rattle.bits.proofs.Arms.{at-arm}
-use Rattle.record.specs.Addresses.{addressesOf}
+use mathlib.Core.Path.{_≡_, refl, _∙_, sym, ap}
+use Rattle.record.specs.Sort.{sortOf}
+use Rattle.record.specs.Addresses.{sortAddresses, addressesOf}
 use Rattle.record.specs.declared.kinds.Addresses.{Addresses}
+use Rattle.record.specs.declared.kinds.Record.{Record}
+use Rattle.record.specs.declared.kinds.Sort.{Sort}
 use Rattle.record.proofs.told.addresses.Statement.{statement}
 use Rattle.record.proofs.told.addresses.Tie as tie
 
-enum-known-r : tie.Need-enum-known-r
-enum-known-r c = search needs
+-- what an arm says of its sort is said of the record
+of-sort : (r : Record) {came part : Sort} → came ≡ sortOf r → came ≡ part → sortAddresses part ≡ addressesOf r
+of-sort r sorted same = ap sortAddresses (sym same ∙ sorted)
+
+sort-requires : tie.Need-sort-requires
+sort-requires c κs = search needs
 
 enum-told : tie.Need-enum-told
 enum-told c = search needs
@@ -19,82 +23,34 @@ enum-told c = search needs
 enum-told-2 : tie.Need-enum-told-2
 enum-told-2 c = search needs
 
-enum-told-3 : tie.Need-enum-told-3
-enum-told-3 c = search needs
+enum-known-x : tie.Need-enum-known-x
+enum-known-x c = search needs
 
-enum-told-4 : tie.Need-enum-told-4
-enum-told-4 c = search needs
-
-enum-told-5 : tie.Need-enum-told-5
-enum-told-5 c = search needs
-
-enum-told-6 : tie.Need-enum-told-6
-enum-told-6 c = search needs
-
-enum-told-7 : tie.Need-enum-told-7
-enum-told-7 c = search needs
-
-enum-known-r-2 : tie.Need-enum-known-r-2
-enum-known-r-2 c = search needs
-
-enum-known-r-3 : tie.Need-enum-known-r-3
-enum-known-r-3 c = search needs
+enum-known-x-2 : tie.Need-enum-known-x-2
+enum-known-x-2 c = search needs
 
 returns : tie.Need-returns
-returns c = search needs
+returns c = of-sort (c .before .before .before .args .r) (c .before .before .sort .ensures) (c .enum-told .given .1)
 
 returns-2 : tie.Need-returns-2
-returns-2 c = at-arm addressesOf (sym (ap (λ (b : Bool). cond b Addresses.Virtual Addresses.None) (ne-eqb _ _ (c .if1 .left)))) (c .before .before .before .r .given .1)
+returns-2 c = of-sort (c .before .before .before .args .r) (c .before .before .sort .ensures) (c .enum-told2 .given .1)
 
 returns-3 : tie.Need-returns-3
-returns-3 c = search needs
+returns-3 c = of-sort (c .before .before .before .before .args .r) (c .before .before .before .sort .ensures) (c .before .x .given .1)
 
 returns-4 : tie.Need-returns-4
-returns-4 c = search needs
-
-returns-5 : tie.Need-returns-5
-returns-5 c = search needs
-
-returns-6 : tie.Need-returns-6
-returns-6 c = search needs
-
-returns-7 : tie.Need-returns-7
-returns-7 c = search needs
-
-returns-8 : tie.Need-returns-8
-returns-8 c = search needs
-
-returns-9 : tie.Need-returns-9
-returns-9 c = search needs
-
-returns-10 : tie.Need-returns-10
-returns-10 c = at-arm addressesOf refl (c .before .r2 .given .1)
-
-returns-11 : tie.Need-returns-11
-returns-11 c = at-arm addressesOf refl (c .before .r3 .given .1)
+returns-4 c = of-sort (c .before .before .before .before .args .r) (c .before .before .before .sort .ensures) (c .before .x2 .given .1)
 
 pub addresses-spec : {M : Type 1} → statement M
 addresses-spec =
     tie.close
     (tie.spec
-    enum-known-r
+    sort-requires
     enum-told
     enum-told-2
-    enum-told-3
-    enum-told-4
-    enum-told-5
-    enum-told-6
-    enum-told-7
-    enum-known-r-2
-    enum-known-r-3
+    enum-known-x
+    enum-known-x-2
     returns
     returns-2
     returns-3
-    returns-4
-    returns-5
-    returns-6
-    returns-7
-    returns-8
-    returns-9
-    returns-10
-    returns-11)
+    returns-4)

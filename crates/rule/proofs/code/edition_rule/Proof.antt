@@ -1,20 +1,28 @@
--- `rule::code::edition_rule` meets its contract: each arm's masks are those of its kind's rules.
+-- `rule::code::edition_rule` meets its contract: each arm's masks are those of its sort's rules.
 -- Assumes nothing.
 use borrow.Author.Needs.{needs}
-use mathlib.Core.Path.{_∙_, ap₂}
+use mathlib.Core.Path.{_≡_, _∙_, sym, ap, ap₂}
 use mathlib.Core.Bool.{_&&_}
 use Prim.Native.Nat.{ℕ}
 use lib.Bits.{bitAnd}
 use Rattle.edition.specs.Mask.{maskOf}
 use Rattle.edition.proofs.Masks.{both-masks}
-use Rattle.rule.specs.Code.{instructionCode, dataCode, setRule, isvRule, editionRule}
+use Rattle.record.specs.Sort.{sortOf}
 use Rattle.record.specs.declared.kinds.Record.{Record}
-use Rattle.bits.proofs.Arms.{at-arm}
+use Rattle.record.specs.declared.kinds.Sort.{Sort}
+use Rattle.rule.specs.Code.{instructionCode, dataCode, setRule, isvRule, sortRule, editionRule}
 use Rattle.rule.proofs.code.edition_rule.Statement.{statement}
 use Rattle.rule.proofs.code.edition_rule.Tie as tie
 
-abbrev byEdition : Record → ℕ
-byEdition r = maskOf (λ e. editionRule e r)
+abbrev byEdition : Sort → ℕ
+byEdition s = maskOf (λ e. sortRule e s)
+
+-- the mask of an arm's sort is the record's
+of-sort : (r : Record) {came part : Sort} {m : ℕ} → came ≡ sortOf r → came ≡ part → m ≡ byEdition part → m ≡ maskOf (λ e. editionRule e r)
+of-sort r sorted same mask = mask ∙ ap byEdition (sym same ∙ sorted)
+
+sort-requires : tie.Need-sort-requires
+sort-requires c κs = search needs
 
 enum-told : tie.Need-enum-told
 enum-told c = search needs
@@ -28,44 +36,8 @@ enum-told-2 c = search needs
 all-editions-requires-2 : tie.Need-all-editions-requires-2
 all-editions-requires-2 c κs = search needs
 
-enum-told-3 : tie.Need-enum-told-3
-enum-told-3 c = search needs
-
-all-editions-requires-3 : tie.Need-all-editions-requires-3
-all-editions-requires-3 c κs = search needs
-
-enum-told-4 : tie.Need-enum-told-4
-enum-told-4 c = search needs
-
-all-editions-requires-4 : tie.Need-all-editions-requires-4
-all-editions-requires-4 c κs = search needs
-
-enum-told-5 : tie.Need-enum-told-5
-enum-told-5 c = search needs
-
-all-editions-requires-5 : tie.Need-all-editions-requires-5
-all-editions-requires-5 c κs = search needs
-
-enum-told-6 : tie.Need-enum-told-6
-enum-told-6 c = search needs
-
-all-editions-requires-6 : tie.Need-all-editions-requires-6
-all-editions-requires-6 c κs = search needs
-
-enum-told-7 : tie.Need-enum-told-7
-enum-told-7 c = search needs
-
-all-editions-requires-7 : tie.Need-all-editions-requires-7
-all-editions-requires-7 c κs = search needs
-
-enum-told-8 : tie.Need-enum-told-8
-enum-told-8 c = search needs
-
-all-editions-requires-8 : tie.Need-all-editions-requires-8
-all-editions-requires-8 c κs = search needs
-
-enum-known-r : tie.Need-enum-known-r
-enum-known-r c = search needs
+enum-known-x : tie.Need-enum-known-x
+enum-known-x c = search needs
 
 instruction-code-requires : tie.Need-instruction-code-requires
 instruction-code-requires c κs = search needs
@@ -73,8 +45,8 @@ instruction-code-requires c κs = search needs
 set-rule-requires : tie.Need-set-rule-requires
 set-rule-requires c κs = search needs
 
-enum-known-r-2 : tie.Need-enum-known-r-2
-enum-known-r-2 c = search needs
+enum-known-x-2 : tie.Need-enum-known-x-2
+enum-known-x-2 c = search needs
 
 data-code-requires : tie.Need-data-code-requires
 data-code-requires c κs = search needs
@@ -86,82 +58,51 @@ isv-rule-requires : tie.Need-isv-rule-requires
 isv-rule-requires c κs = search needs
 
 returns : tie.Need-returns
-returns c = at-arm byEdition (c .all-editions .ensures) (c .before .enum-told .given .1)
+returns c =
+    let at = c .before .before .before in
+    of-sort (at .before .args .r) (at .sort .ensures) (c .before .enum-told .given .1) (c .all-editions .ensures)
 
 returns-2 : tie.Need-returns-2
-returns-2 c = at-arm byEdition (c .all-editions2 .ensures) (c .before .enum-told2 .given .1)
+returns-2 c =
+    let at = c .before .before .before in
+    of-sort (at .before .args .r) (at .sort .ensures) (c .before .enum-told2 .given .1) (c .all-editions2 .ensures)
 
 returns-3 : tie.Need-returns-3
-returns-3 c = at-arm byEdition (c .all-editions3 .ensures) (c .before .enum-told3 .given .1)
+returns-3 c =
+    let at = c .before .before .before .before .before in
+    let x = c .before .before .before .x .given in
+    of-sort (at .before .args .r) (at .sort .ensures) (x .1)
+    (ap₂ bitAnd (c .before .instruction-code .ensures) (c .set-rule .ensures)
+    ∙ both-masks (λ e. instructionCode e (x .0 .0 .code)) (λ e. setRule e (x .0 .0 .set) (x .0 .0 .code)))
 
 returns-4 : tie.Need-returns-4
-returns-4 c = at-arm byEdition (c .all-editions4 .ensures) (c .before .enum-told4 .given .1)
-
-returns-5 : tie.Need-returns-5
-returns-5 c = at-arm byEdition (c .all-editions5 .ensures) (c .before .enum-told5 .given .1)
-
-returns-6 : tie.Need-returns-6
-returns-6 c = at-arm byEdition (c .all-editions6 .ensures) (c .before .enum-told6 .given .1)
-
-returns-7 : tie.Need-returns-7
-returns-7 c = at-arm byEdition (c .all-editions7 .ensures) (c .before .enum-told7 .given .1)
-
-returns-8 : tie.Need-returns-8
-returns-8 c = at-arm byEdition (c .all-editions8 .ensures) (c .before .enum-told8 .given .1)
-
-returns-9 : tie.Need-returns-9
-returns-9 c =
-    let r = c .before .before .before .r .given in
-    at-arm byEdition
-    (ap₂ bitAnd (c .before .instruction-code .ensures) (c .set-rule .ensures)
-    ∙ both-masks (λ e. instructionCode e (r .0 .0 .code)) (λ e. setRule e (r .0 .0 .set) (r .0 .0 .code)))
-    (r .1)
-
-returns-10 : tie.Need-returns-10
-returns-10 c =
-    let r = c .before .before .before .before .r2 .given in
-    at-arm byEdition
+returns-4 c =
+    let at = c .before .before .before .before .before .before in
+    let x = c .before .before .before .before .x2 .given in
+    of-sort (at .before .args .r) (at .sort .ensures) (x .1)
     (ap₂ bitAnd
     (ap₂ bitAnd (c .before .before .data-code .ensures) (c .before .set-rule2 .ensures)
-    ∙ both-masks (λ e. dataCode e (r .0 .0 .code)) (λ e. setRule e (r .0 .0 .set) (r .0 .0 .code)))
+    ∙ both-masks (λ e. dataCode e (x .0 .0 .code)) (λ e. setRule e (x .0 .0 .set) (x .0 .0 .code)))
     (c .isv-rule .ensures)
-    ∙ both-masks (λ e. dataCode e (r .0 .0 .code) && setRule e (r .0 .0 .set) (r .0 .0 .code)) (λ e. isvRule e (r .0 .0 .isv) (r .0 .0 .code)))
-    (r .1)
+    ∙ both-masks (λ e. dataCode e (x .0 .0 .code) && setRule e (x .0 .0 .set) (x .0 .0 .code)) (λ e. isvRule e (x .0 .0 .isv) (x .0 .0 .code)))
 
 pub edition-rule-spec : {M : Type 1} → statement M
 edition-rule-spec =
     tie.close
     (tie.spec
+    sort-requires
     enum-told
     all-editions-requires
     enum-told-2
     all-editions-requires-2
-    enum-told-3
-    all-editions-requires-3
-    enum-told-4
-    all-editions-requires-4
-    enum-told-5
-    all-editions-requires-5
-    enum-told-6
-    all-editions-requires-6
-    enum-told-7
-    all-editions-requires-7
-    enum-told-8
-    all-editions-requires-8
-    enum-known-r
+    enum-known-x
     instruction-code-requires
     set-rule-requires
-    enum-known-r-2
+    enum-known-x-2
     data-code-requires
     set-rule-requires-2
     isv-rule-requires
     returns
     returns-2
     returns-3
-    returns-4
-    returns-5
-    returns-6
-    returns-7
-    returns-8
-    returns-9
-    returns-10)
+    returns-4)
