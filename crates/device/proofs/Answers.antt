@@ -10,7 +10,7 @@ use Rattle.bits.proofs.Arms.{told}
 use Rattle.bits.proofs.Deciding.{decide-relabel, decided-exactly, answer-is}
 use Rattle.record.specs.declared.kinds.DataAbort.{DataAbort}
 use Rattle.record.specs.declared.kinds.Record.{Record}
-use Rattle.record.specs.Class.{among}
+use Rattle.bits.specs.Among.{among}
 use Rattle.status.specs.Sound.{sound}
 use Rattle.exception.specs.declared.state.Guest.{Guest}
 use Rattle.device.specs.declared.access.Described.{Described}

@@ -4,6 +4,7 @@ use mathlib.Core.Bool.{true, cond}
 use mathlib.Core.Logic.{_↔_}
 use Prim.Native.Nat.{ℕ}
 use lib.Dec.{T, eqb}
+use Rattle.bits.specs.Among.{among}
 use Rattle.bits.specs.Decide.{decide, FirstFails}
 use Rattle.bits.proofs.Deciding.{decide-relabel, all-pass, decided-exactly, answer-is}
 use Rattle.status.specs.Sound.{sound}
@@ -13,7 +14,7 @@ use Rattle.guest.specs.declared.answer.Answer.{Answer}
 use Rattle.guest.specs.declared.answer.Answer.the-variants.{Accepted, UnsoundStatus, UnalignedVbar, UnwritableFault, WideAddress}
 use Rattle.guest.specs.declared.injection.Injection.{Injection}
 use Rattle.guest.specs.declared.injector.Injected.{Injected}
-use Rattle.guest.specs.Answer.{answerNumber, listed, injectionList}
+use Rattle.guest.specs.Answer.{answerNumber, injectionList}
 use Rattle.guest.specs.Tests.{writable, addressFits, injectionTests, injectionNumbers}
 use Rattle.guest.specs.Inject.{guestAfter, injectionAnswer, resulting, injected}
 use Rattle.guest.specs.Promise.{Promise}
@@ -31,8 +32,8 @@ promised s i e =
     record { result = e; number = ap (λ (r : Injected). answerNumber (r .answer)) e ∙ number-decided s i; mask = refl; count = refl }
 
 -- an injection answers 0 or 9 to 12
-pub number-listed : (s : Guest) (i : Injection) → T (listed (decide (injectionNumbers s i) 0) injectionList)
-number-listed s i = answer-is (λ n. T (listed n injectionList)) (injectionNumbers s i) 0 (tt, (tt, (tt, (tt, tt)))) tt
+pub number-listed : (s : Guest) (i : Injection) → T (among injectionList (decide (injectionNumbers s i) 0))
+number-listed s i = answer-is (λ n. T (among injectionList n)) (injectionNumbers s i) 0 (tt, (tt, (tt, (tt, tt)))) tt
 
 -- EACH REFUSAL EXACTLY: an injection answers a number exactly when its test is the first that fails, and 0 exactly when none fails
 pub decided : (s : Guest) (i : Injection) (k : ℕ) → (answerNumber (injectionAnswer s i) ≡ k) ↔ FirstFails k (injectionNumbers s i)
