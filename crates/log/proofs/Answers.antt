@@ -17,7 +17,7 @@ use Rattle.log.specs.declared.answer.Read.{Read}
 use Rattle.log.specs.declared.answer.Read.the-variants.{Accepted, TooLong, CutShort, LeftOver, Unequal}
 
 -- what holds of each refusal holds of what every test gives
-each-refusal : (P : Read → Type 0) (s : List ℕ)
+pub each-refusal : (P : Read → Type 0) (s : List ℕ)
     → P TooLong → ((n : ℕ) → 1 ≤ n → n ≤ 4 → P (CutShort n)) → P LeftOver → P Unequal → OneOf P (readTests s)
 each-refusal P s long cut left unequal =
     (long, (cut 1 (lit≤ tt) (lit≤ tt), (cut 2 (lit≤ tt) (lit≤ tt), (cut 3 (lit≤ tt) (lit≤ tt), (cut 4 (lit≤ tt) (lit≤ tt), (left, (unequal, tt)))))))

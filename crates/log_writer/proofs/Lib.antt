@@ -1,4 +1,4 @@
 pub mod Putting
 pub mod Tests
-pub mod Again
 pub mod Answers
+pub mod Again

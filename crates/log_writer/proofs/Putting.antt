@@ -11,7 +11,7 @@ use lib.Seq.{sets, length-sets, drop-cons, drop-length}
 use Rattle.log.specs.Number.{little}
 use Rattle.log.specs.Log.{Address, byte, pair, nowhere, entryBytes}
 use Rattle.log.proofs.Numbers.{length-little}
-use Rattle.log_writer.specs.Write.{paired}
+use Rattle.log_writer.specs.Lists.{paired}
 
 -- bytes after bytes
 pub sets-both : (xs ys l : List ℕ) (at end : ℕ) → end ≡ at + length xs → sets (sets l at xs) end ys ≡ sets l at (xs ++ ys)

@@ -1,61 +1,76 @@
--- The ways to an answer of the writer, by its tests; and the four sections that a log is put together from.
+-- The ways to an answer of the writer, by its tests; the promise that each keeps; and the four sections that a log is put together from.
 -- Assumes nothing.
-use mathlib.Core.Path.{_≡_, refl, sym, ap, _∙_}
+use mathlib.Core.Path.{_≡_, refl, sym, ap, _∙_, subst}
+use mathlib.Core.Bool.{cond}
 use mathlib.Core.List.{List, [], _∷_, _++_, append-assoc}
-use Prim.Native.Nat.{ℕ, _+_, _*_, _≤_, _<_, min, max}
-use native.Mathlib.Nat.{zero-add}
+use Prim.Native.Nat.{ℕ, _+_, _*_, _≤_, _<_, min}
 use native.Mathlib.Omega.{arith}
 use borrow.Author.Tests.{le-leb, lt-leb, eq-eqb, ne-eqb}
+use lib.Dec.{eqb}
 use lib.ListN.{length, drop, length-append}
 use lib.Seq.{sets, sets-eq}
+use Rattle.bits.proofs.Deciding.{decide-relabel, answer-is}
 use Rattle.log.specs.Log.{byte, word, pair, sectionBytes, logOf}
 use Rattle.log.proofs.RoundTrip.{numbers-length, pairs-length}
-use Rattle.log_writer.specs.Write.{paired, entriesFrom, lengthBy, agreeing, writtenOf}
-use Rattle.log_writer.specs.declared.Written.{Written}
-use Rattle.log_writer.specs.declared.Written.the-variants.{Log, TooLong, Unequal, NoRoom}
+use Rattle.log_writer.specs.Lists.{Lists, paired, entriesFrom}
+use Rattle.log_writer.specs.Write.{numberOf, lengthIn, lengthBy, writeTests, writtenOf, bufferAfter, Writing}
+use Rattle.log_writer.specs.declared.answer.Written.{Written}
+use Rattle.log_writer.specs.declared.answer.Written.the-variants.{Log, TooLong, Unequal, NoRoom}
 use Rattle.log_writer.proofs.Putting.{sets-both, paired-length}
 
-module _ (editions syndromes fars hpfars injections : List ℕ) (room : ℕ) where
-  abbrev all : ℕ
-  all = lengthBy editions syndromes fars hpfars injections
+-- number and length follow from the answer
+pub promised : (l : Lists) (before after : List ℕ) (a : Written) → a ≡ writtenOf l (length before)
+    → after ≡ bufferAfter a (logOf (entriesFrom l)) before → Writing l before after a
+unfolding writtenOf
+promised l before after a e b =
+    let P : Written → Type 0 = λ x. lengthIn x ≡ cond (eqb (numberOf x) 0) (lengthBy l) 0 in
+    let tests = writeTests l (length before) in
+    record {
+      answer = e;
+      number = ap numberOf e ∙ decide-relabel numberOf tests (Log (lengthBy l));
+      written = subst P (sym e) (answer-is P tests (Log (lengthBy l)) (refl, (refl, (refl, tt))) refl);
+      buffer = b;
+    }
 
-  abbrev answer : Written
-  answer = writtenOf editions syndromes fars hpfars injections room
-
-  pub too-long : 65536 < all → TooLong ≡ answer
+module _ (l : Lists) (room : ℕ) where
+  pub too-long : 65536 < lengthBy l → TooLong ≡ writtenOf l room
   unfolding writtenOf
-  too-long h = sym (simp (lt-leb all 65536 h))
+  too-long h = sym (simp (lt-leb (lengthBy l) 65536 h))
 
-  module _ (short : all ≤ 65536) where
-    pub other-fars : (length syndromes ≡ length fars → ⊥) → Unequal ≡ answer
+  module _ (short : lengthBy l ≤ 65536) where
+    pub other-fars : (length (l .syndromes) ≡ length (l .fars) → ⊥) → Unequal ≡ writtenOf l room
     unfolding writtenOf
-    other-fars h = sym (simp (le-leb all 65536 short, ne-eqb (length syndromes) (length fars) h))
+    other-fars h = sym (simp (le-leb (lengthBy l) 65536 short, ne-eqb (length (l .syndromes)) (length (l .fars)) h))
 
-    module _ (fars-agree : length syndromes ≡ length fars) where
-      pub other-hpfars : (length syndromes ≡ length hpfars → ⊥) → Unequal ≡ answer
+    module _ (fars-agree : length (l .syndromes) ≡ length (l .fars)) where
+      pub other-hpfars : (length (l .syndromes) ≡ length (l .hpfars) → ⊥) → Unequal ≡ writtenOf l room
       unfolding writtenOf
       other-hpfars h =
-          sym (simp (le-leb all 65536 short, eq-eqb (length syndromes) (length fars) fars-agree, ne-eqb (length syndromes) (length hpfars) h))
+          sym (simp (
+            le-leb (lengthBy l) 65536 short,
+            eq-eqb (length (l .syndromes)) (length (l .fars)) fars-agree,
+            ne-eqb (length (l .syndromes)) (length (l .hpfars)) h,
+          ))
 
-      module _ (hpfars-agree : length syndromes ≡ length hpfars) where
-        pub no-room : room < all → NoRoom ≡ answer
+      module _ (hpfars-agree : length (l .syndromes) ≡ length (l .hpfars)) where
+        pub no-room : room < lengthBy l → NoRoom ≡ writtenOf l room
         unfolding writtenOf
         no-room h =
             sym (simp (
-              le-leb all 65536 short,
-              eq-eqb (length syndromes) (length fars) fars-agree,
-              eq-eqb (length syndromes) (length hpfars) hpfars-agree,
-              lt-leb all room h,
+              le-leb (lengthBy l) 65536 short,
+              eq-eqb (length (l .syndromes)) (length (l .fars)) fars-agree,
+              eq-eqb (length (l .syndromes)) (length (l .hpfars)) hpfars-agree,
+              lt-leb (lengthBy l) room h,
             ))
 
-        pub has-room : all ≤ room → Log all ≡ answer
+        pub has-room : lengthBy l ≤ room → Log (lengthBy l) ≡ writtenOf l room
         unfolding writtenOf
         has-room h =
             sym (simp (
-              le-leb all 65536 short,
-              eq-eqb (length syndromes) (length fars) fars-agree,
-              eq-eqb (length syndromes) (length hpfars) hpfars-agree,
-              le-leb all room h,
+              le-leb (lengthBy l) 65536 short,
+              eq-eqb (length (l .syndromes)) (length (l .fars)) fars-agree,
+              eq-eqb (length (l .syndromes)) (length (l .hpfars)) hpfars-agree,
+              le-leb (lengthBy l) room h,
             ))
 
 -- the length that the code works out, which stops one past the longest log
@@ -82,17 +97,20 @@ four-parts a b c d out second third fourth end e₂ e₃ e₄ e h =
     ∙ rw (n, whole)
 
 -- the log's four sections
-module _ (editions syndromes fars hpfars injections out : List ℕ) (agree : length fars ≡ length hpfars) where
-  pub sections-put : (second third fourth end : ℕ) → second ≡ 0 + 4 + length editions → third ≡ second + 4 + length syndromes * 8
-      → fourth ≡ third + 4 + length fars * 16 → end ≡ fourth + 4 + length injections → end ≤ length out
-      → sets (sets (sets (sets out 0 (sectionBytes byte editions)) second (sectionBytes word syndromes)) third (sectionBytes pair (paired fars hpfars))) fourth (sectionBytes byte injections)
-      ≡ logOf (entriesFrom editions syndromes fars hpfars injections) ++ drop end out
+module _ (l : Lists) (out : List ℕ) (agree : length (l .fars) ≡ length (l .hpfars)) where
+  abbrev addresses : List ℕ
+  addresses = sectionBytes pair (paired (l .fars) (l .hpfars))
+
+  pub sections-put : (second third fourth end : ℕ) → second ≡ 0 + 4 + length (l .editions) → third ≡ second + 4 + length (l .syndromes) * 8
+      → fourth ≡ third + 4 + length (l .fars) * 16 → end ≡ fourth + 4 + length (l .injections) → end ≤ length out
+      → sets (sets (sets (sets out 0 (sectionBytes byte (l .editions))) second (sectionBytes word (l .syndromes))) third addresses) fourth (sectionBytes byte (l .injections))
+      ≡ logOf (entriesFrom l) ++ drop end out
   unfolding logOf
   sections-put second third fourth end e₂ e₃ e₄ e h =
-      let l₁ = numbers-length 1 editions in
-      let l₂ = numbers-length 8 syndromes in
-      let l₃ = pairs-length (paired fars hpfars) in
-      let n = paired-length fars hpfars agree in
-      let l₄ = numbers-length 1 injections in
-      four-parts (sectionBytes byte editions) (sectionBytes word syndromes) (sectionBytes pair (paired fars hpfars)) (sectionBytes byte injections) out
+      let l₁ = numbers-length 1 (l .editions) in
+      let l₂ = numbers-length 8 (l .syndromes) in
+      let l₃ = pairs-length (paired (l .fars) (l .hpfars)) in
+      let n = paired-length (l .fars) (l .hpfars) agree in
+      let l₄ = numbers-length 1 (l .injections) in
+      four-parts (sectionBytes byte (l .editions)) (sectionBytes word (l .syndromes)) addresses (sectionBytes byte (l .injections)) out
       second third fourth end (omega arith) (omega arith) (omega arith) (omega arith) h

@@ -1,12 +1,16 @@
--- Request C-14, "A log writer": what writing a log answers, for every entry and every room, and the buffer after it.
+-- Request C-14, "A log writer": what writing a log answers, for all lists and every room, and the buffer after it.
 use Prim.Native.Nat.{ℕ, _+_, _*_, max}
-use mathlib.Core.Bool.{Bool, true, false, _&&_}
+use mathlib.Core.Path.{_≡_}
+use mathlib.Core.Bool.{Bool, cond, _&&_}
 use mathlib.Core.List.{List, [], _∷_, _++_}
 use lib.Dec.{leb, eqb}
 use lib.ListN.{length, drop}
-use Rattle.log.specs.Log.{Address, Entries, logOf}
-use Rattle.log_writer.specs.declared.Written.{Written}
-use Rattle.log_writer.specs.declared.Written.the-variants.{Log, TooLong, Unequal, NoRoom}
+use Rattle.bits.specs.Decide.{Test, needs, decide}
+use Rattle.log.specs.Section.{injectionSize}
+use Rattle.log.specs.Log.{logOf}
+use Rattle.log_writer.specs.Lists.{Lists, entriesFrom}
+use Rattle.log_writer.specs.declared.answer.Written.{Written}
+use Rattle.log_writer.specs.declared.answer.Written.the-variants.{Log, TooLong, Unequal, NoRoom}
 
 abbrev pub numberOf : Written → ℕ
 numberOf (Log n) = 0
@@ -21,45 +25,35 @@ lengthIn Unequal = 0
 lengthIn TooLong = 0
 lengthIn NoRoom = 0
 
--- FAR and HPFAR come in two lists. An address that has only one of them is an address all the same, so that none is lost: it is counted,
--- and refused 15.
-abbrev pub paired : List ℕ → List ℕ → List Address
-paired [] hpfars = []
-paired (far ∷ fars) [] = []
-paired (far ∷ fars) (hpfar ∷ hpfars) = record { far = far; hpfar = hpfar } ∷ paired fars hpfars
+-- the length by the counts: four counts, and the entries. An address that has only one of its words counts as an address.
+abbrev pub lengthBy : Lists → ℕ
+lengthBy l =
+    16 + length (l .editions) + length (l .syndromes) * 8 + max (length (l .fars)) (length (l .hpfars)) * 16
+    + length (l .injections) * injectionSize
 
--- and back: the two lists of some addresses
-abbrev pub farsOf : List Address → List ℕ
-farsOf [] = []
-farsOf (a ∷ rest) = a .far ∷ farsOf rest
+-- as many FARs and as many HPFARs as syndromes
+abbrev pub agreeing : Lists → Bool
+agreeing l = eqb (length (l .syndromes)) (length (l .fars)) && eqb (length (l .syndromes)) (length (l .hpfars))
 
-abbrev pub hpfarsOf : List Address → List ℕ
-hpfarsOf [] = []
-hpfarsOf (a ∷ rest) = a .hpfar ∷ hpfarsOf rest
+-- THE TESTS in their order, each with what comes where it fails: at most 65,536 bytes; equal counts; room for the length by the counts
+module _ {A : Type 0} (tooLong unequal noRoom : A) where
+  abbrev pub testsOf : Lists → ℕ → List (Test A)
+  testsOf l room =
+      needs (leb (lengthBy l) 65536) tooLong
+      ∷ needs (agreeing l) unequal
+      ∷ needs (leb (lengthBy l) room) noRoom
+      ∷ []
 
-module _ (editions syndromes fars hpfars injections : List ℕ) where
-  abbrev pub entriesFrom : Entries
-  entriesFrom = record { editions = editions; syndromes = syndromes; addresses = paired fars hpfars; injections = injections }
+-- each with its answer, and with its number
+abbrev pub writeTests : Lists → ℕ → List (Test Written)
+writeTests l room = testsOf TooLong Unequal NoRoom l room
 
-  -- the length by the counts
-  abbrev pub lengthBy : ℕ
-  lengthBy = 16 + length editions + length syndromes * 8 + max (length fars) (length hpfars) * 16 + length injections
+abbrev pub writeNumbers : Lists → ℕ → List (Test ℕ)
+writeNumbers l room = testsOf 16 15 17 l room
 
-  abbrev pub agreeing : Bool
-  agreeing = eqb (length syndromes) (length fars) && eqb (length syndromes) (length hpfars)
-
--- where a test fails its refusal is the answer, else what comes after it is
-abbrev pub needs : Bool → Written → Written → Written
-needs true refusal next = next
-needs false refusal next = refusal
-
--- 16, then 15, then 17 exactly when the length by the counts is greater than the room
-unfoldable pub writtenOf : List ℕ → List ℕ → List ℕ → List ℕ → List ℕ → ℕ → Written
-writtenOf editions syndromes fars hpfars injections room =
-    needs (leb (lengthBy editions syndromes fars hpfars injections) 65536) TooLong
-    (needs (agreeing editions syndromes fars hpfars injections) Unequal
-    (needs (leb (lengthBy editions syndromes fars hpfars injections) room) NoRoom
-    (Log (lengthBy editions syndromes fars hpfars injections))))
+-- the first test that fails gives the answer
+unfoldable pub writtenOf : Lists → ℕ → Written
+writtenOf l room = decide (writeTests l room) (Log (lengthBy l))
 
 -- a log that was written stands at the front and what lies past it stays; a refusal leaves the whole buffer as it was
 abbrev pub bufferAfter : Written → List ℕ → List ℕ → List ℕ
@@ -67,3 +61,11 @@ bufferAfter (Log n) log before = log ++ drop n before
 bufferAfter Unequal log before = before
 bufferAfter TooLong log before = before
 bufferAfter NoRoom log before = before
+
+-- THE PROMISE of writing, of the buffer before it and after it: the answer; its number, by the first test that fails; the length by the counts, 0 on
+-- a refusal; and the buffer
+pub record Writing (l : Lists) (before after : List ℕ) (a : Written) : Type 0 where
+  pub answer : a ≡ writtenOf l (length before)
+  pub number : numberOf a ≡ decide (writeNumbers l (length before)) 0
+  pub written : lengthIn a ≡ cond (eqb (numberOf a) 0) (lengthBy l) 0
+  pub buffer : after ≡ bufferAfter a (logOf (entriesFrom l)) before

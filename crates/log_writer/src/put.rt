@@ -5,7 +5,7 @@ ghost use lib.ListN.{length};
 ghost use lib.Seq.{sets};
 ghost use Rattle.log.specs.Number.{little};
 ghost use Rattle.log.specs.Log.{byte, word, pair, sectionBytes};
-ghost use Rattle.log_writer.specs.Write.{paired};
+ghost use Rattle.log_writer.specs.Lists.{paired};
 
 // The lowest four bytes of a number.
 fn four(out: &mut [u8], at: usize, n: u64) -> usize

@@ -12,7 +12,7 @@ use Rattle.log.specs.Log.{Address, pair, nowhere, entryBytes}
 use Rattle.log.proofs.Numbers.{length-little}
 use Rattle.log_writer.proofs.Putting.{paired-length, pair-stored, Putting, begun, put-one, put-all, section-put}
 use Rattle.log.proofs.RoundTrip.{pair-sized}
-use Rattle.log_writer.specs.Write.{paired}
+use Rattle.log_writer.specs.Lists.{paired}
 use Rattle.log_writer.proofs.put.pairs.Statement.{statement}
 use Rattle.log_writer.proofs.put.pairs.Tie as tie
 
