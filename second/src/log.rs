@@ -4,6 +4,8 @@
 //! A log is never measured beforehand. Reading takes bytes off the front until
 //! they run out; writing pushes them and looks at the length afterwards.
 
+mod questions;
+
 use crate::catalogue::Catalogue;
 use crate::long::LONG;
 use crate::random::Random;
@@ -103,17 +105,6 @@ pub fn bytes(log: &Log) -> Vec<u8> {
     count(&mut bytes, log.injections.len());
     bytes.extend(&log.injections);
     bytes
-}
-
-/// The number that a writer answers for a buffer of so many bytes.
-fn written(log: &Log, room: usize) -> u8 {
-    let length = bytes(log).len();
-    match () {
-        () if length > LONGEST => 16,
-        () if log.syndromes.len() != log.addresses.len() => 15,
-        () if length > room => 17,
-        () => 0,
-    }
 }
 
 /// The first line: how the log was read.
@@ -260,30 +251,16 @@ fn logs() -> Vec<Vec<u8>> {
     logs
 }
 
-/// What the check program writes for a log.
-fn checked(bytes_in: &[u8]) -> String {
-    let answer = read(bytes_in);
-    let mut text = first_line(&answer);
-    if let Ok((log, _)) = answer {
-        let again = bytes(&log);
-        let same = if again == bytes_in { "same" } else { "other" };
-        let (short, full) = (written(&log, again.len() - 1), written(&log, again.len()));
-        let _ = writeln!(text, "again {short} {full} {same}");
-    }
-    text
-}
-
-/// The files of logs with their names: one log that is shown, and many that are
-/// read and written again, each after its length.
+/// The files of logs with their names: one log that is shown, and the questions on
+/// logs with their answers.
 pub fn files() -> Vec<(&'static str, Vec<u8>)> {
     let shown_log = bytes(&example());
-    let logs = logs();
-    let framed = |log: &Vec<u8>| [&(log.len() as u32).to_le_bytes()[..], log].concat();
+    let (stdin, stdout) = questions::files();
     vec![
         ("logread/stdout", shown(&shown_log).into_bytes()),
         ("logread/stdin", shown_log),
-        ("check_log/stdin", logs.iter().flat_map(framed).collect()),
-        ("check_log/stdout", logs.iter().map(|log| checked(log)).collect::<String>().into_bytes()),
+        ("check_log/stdin", stdin),
+        ("check_log/stdout", stdout),
     ]
 }
 

@@ -6,19 +6,16 @@ use Rattle.check_log.proofs.main.Statement.{statement}
 use Rattle.check_log.proofs.main.Tie as tie
 
 abbrev Inv-loop : tie.InvT-loop
-Inv-loop room₀ turns₀ room turns = Unit
+Inv-loop turns₀ turns = Unit
 
 abbrev μ-loop : tie.MeasureT-loop
-μ-loop room₀ turns₀ room turns = turns
-
-slice-aggregate-room : tie.Need-slice-aggregate-room Inv-loop μ-loop
-slice-aggregate-room c = search needs
+μ-loop turns₀ turns = turns
 
 loop-holds : tie.Need-loop-holds Inv-loop μ-loop
 loop-holds c = tt
 
-next-log-requires : tie.Need-next-log-requires Inv-loop μ-loop
-next-log-requires c κs = search needs
+next-question-requires : tie.Need-next-question-requires Inv-loop μ-loop
+next-question-requires c κs = search needs
 
 sub-turns : tie.Need-sub-turns Inv-loop μ-loop
 sub-turns c = omega arith
@@ -41,9 +38,8 @@ main-spec =
     (tie.spec
     Inv-loop
     μ-loop
-    slice-aggregate-room
     loop-holds
-    next-log-requires
+    next-question-requires
     sub-turns
     loop-less
     loop-again

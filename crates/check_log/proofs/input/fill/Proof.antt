@@ -1,30 +1,33 @@
--- `check_log::entries::words` is safe and ends.
+-- `check_log::input::fill` is safe and ends.
 -- Assumes nothing.
 use borrow.Author.Needs.{needs}
 use mathlib.Core.Path.{_≡_, refl, _∙_}
 use Prim.Native.Nat.{_-_}
 use native.Mathlib.Omega.{arith}
 use lib.ListN.{length, length-set}
-use Rattle.check_log.proofs.entries.words.Statement.{statement}
-use Rattle.check_log.proofs.entries.words.Tie as tie
+use Rattle.check_log.proofs.input.fill.Statement.{statement}
+use Rattle.check_log.proofs.input.fill.Tie as tie
 
 abbrev Inv-loop : tie.InvT-loop
-Inv-loop log which out₀ i₀ out i = length out ≡ length out₀
+Inv-loop space₀ given n i₀ space i = length space ≡ length space₀
 
 abbrev μ-loop : tie.MeasureT-loop
-μ-loop log which out₀ i₀ out i = length out₀ - i
+μ-loop space₀ given n i₀ space i = n - i
+
+least-requires : tie.Need-least-requires Inv-loop μ-loop
+least-requires c κs = search needs
 
 loop-holds : tie.Need-loop-holds Inv-loop μ-loop
 loop-holds c = refl
 
-word-at-requires : tie.Need-word-at-requires Inv-loop μ-loop
-word-at-requires c κs = search needs
+word-requires : tie.Need-word-requires Inv-loop μ-loop
+word-requires c κs = search needs
 
-mul-out : tie.Need-mul-out Inv-loop μ-loop
-mul-out c = search needs
+mul-space : tie.Need-mul-space Inv-loop μ-loop
+mul-space c = omega arith
 
-slice-write-out : tie.Need-slice-write-out Inv-loop μ-loop
-slice-write-out c = search needs
+slice-write-space : tie.Need-slice-write-space Inv-loop μ-loop
+slice-write-space c = omega arith
 
 add-i : tie.Need-add-i Inv-loop μ-loop
 add-i c = omega arith
@@ -35,7 +38,7 @@ loop-less c = omega arith
 loop-again : tie.Need-loop-again Inv-loop μ-loop
 loop-again c =
     let l = c .before .before .loop in
-    length-set (l .out) (l .i) (c .word-at .result) ∙ l .inv
+    length-set (l .space) (l .i) (c .word .result) ∙ l .inv
 
 same-length : tie.Need-same-length Inv-loop μ-loop
 same-length c = c .before .loop .inv
@@ -43,16 +46,17 @@ same-length c = c .before .loop .inv
 returns : tie.Need-returns Inv-loop μ-loop
 returns c = tt
 
-pub words-spec : {M : Type 1} → statement M
-words-spec =
+pub fill-spec : {M : Type 1} → statement M
+fill-spec =
     tie.close
     (tie.spec
     Inv-loop
     μ-loop
+    least-requires
     loop-holds
-    word-at-requires
-    mul-out
-    slice-write-out
+    word-requires
+    mul-space
+    slice-write-space
     add-i
     loop-less
     loop-again

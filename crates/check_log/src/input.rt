@@ -1,0 +1,93 @@
+// What a question asks about, from standard input. Where the input has ended, every number is 0.
+//
+// A list is its length, how many of its entries follow, and these. The others are as the buffer has them.
+ghost use mathlib.Core.Path.{_≡_};
+ghost use Prim.Native.Nat.{min};
+use libc::STDIN_FILENO;
+
+// The next byte, or 0 at the end.
+pub fn letter() -> u8 {
+    let mut one = [0u8; 1];
+    io::read_full(STDIN_FILENO, &mut one);
+    one[0]
+}
+
+fn joined(first: u8, second: u8, third: u8, last: u8) -> u32 {
+    first as u32 + 256 * (second as u32) + 65536 * (third as u32) + 16777216 * (last as u32)
+}
+
+// A number of four bytes, the lowest first.
+pub fn number() -> u32 {
+    let mut four = [0u8; 4];
+    io::read_full(STDIN_FILENO, &mut four);
+    joined(four[0], four[1], four[2], four[3])
+}
+
+fn both(low: u32, high: u32) -> u64 {
+    low as u64 + 4294967296 * (high as u64)
+}
+
+fn word() -> u64 {
+    let low = number();
+    let high = number();
+    both(low, high)
+}
+
+// Reads a list of bytes to the front of a buffer, and gives its length.
+pub fn bytes(space: &mut [u8]) -> usize {
+    let length = number() as usize;
+    let given = number() as usize;
+    if space.len() < given {
+        return 0;
+    }
+    io::read_full(STDIN_FILENO, &mut space[0..given]);
+    length
+}
+
+fn least(a: usize, b: usize) -> usize
+    ensures { λ n. ⌜ n ≡ min a b ⌝ }
+{
+    if a < b { a } else { b }
+}
+
+fn fill(space: &mut [u64], given: usize) {
+    let n = least(given, space.len());
+    let mut i = 0;
+    while i < n {
+        space[i] = word();
+        i += 1;
+    }
+}
+
+// The same for words of eight bytes.
+pub fn words(space: &mut [u64]) -> usize {
+    let length = number() as usize;
+    let given = number() as usize;
+    fill(space, given);
+    length
+}
+
+// The first n of a buffer, or all of it where it has fewer.
+pub fn first_bytes(space: &[u8], n: usize) -> &[u8] {
+    if n <= space.len() {
+        &space[0..n]
+    } else {
+        space
+    }
+}
+
+pub fn first_words(space: &[u64], n: usize) -> &[u64] {
+    if n <= space.len() {
+        &space[0..n]
+    } else {
+        space
+    }
+}
+
+pub fn front(space: &mut [u8], n: usize) -> &mut [u8] {
+    if n <= space.len() {
+        &mut space[0..n]
+    } else {
+        space
+    }
+}
