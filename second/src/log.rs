@@ -7,13 +7,14 @@
 mod questions;
 
 use crate::catalogue::Catalogue;
+use crate::log_runs;
 use crate::long::LONG;
 use crate::random::Random;
 use crate::trap::{read_trap, Intermediate, Registers};
 use std::collections::BTreeSet;
 use std::fmt::Write;
 
-const LONGEST: usize = 65_536;
+pub const LONGEST: usize = 65_536;
 
 /// What a log carries.
 #[derive(Clone, Debug, Default, PartialEq, Eq)]
@@ -116,7 +117,7 @@ fn first_line(answer: &Result<(Log, usize), Refusal>) -> String {
 }
 
 /// The lines that logread writes for a log.
-fn shown(bytes: &[u8]) -> String {
+pub fn shown(bytes: &[u8]) -> String {
     let answer = read(bytes);
     let mut text = first_line(&answer);
     let Ok((log, _)) = answer else { return text };
@@ -254,7 +255,7 @@ fn logs() -> Vec<Vec<u8>> {
 /// The files of logs with their names: one log that is shown, and the questions on
 /// logs with their answers.
 pub fn files() -> Vec<(&'static str, Vec<u8>)> {
-    let shown_log = bytes(&example());
+    let shown_log = bytes(&log_runs::stored());
     let (stdin, stdout) = questions::files();
     vec![
         ("logread/stdout", shown(&shown_log).into_bytes()),

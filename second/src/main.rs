@@ -15,6 +15,7 @@ mod edition;
 mod form;
 mod guest;
 mod log;
+mod log_runs;
 mod long;
 #[cfg(any(feature = "compare", test))]
 mod ordinary;

@@ -4,13 +4,16 @@
 
 use crate::call;
 use crate::catalogue::Catalogue;
+use crate::log;
+use crate::log_runs;
 use crate::long::LONG;
 use crate::random::Random;
 use crate::syndrome::{read, word_to_look_up};
-use std::fs;
+use std::env;
+use std::fs::{self, File};
 use std::io::{self, Read, Write};
 use std::path::Path;
-use std::process::{Command, Stdio};
+use std::process::{self, Child, ChildStdin, Command, Stdio};
 use std::thread;
 use std::time::Duration;
 
@@ -18,11 +21,12 @@ use std::time::Duration;
 struct Program {
     name: &'static str,
     answers: fn(&[u8]) -> Vec<u8>,
-    inputs: fn() -> Vec<(&'static str, Vec<u8>)>,
+    inputs: fn() -> Vec<(String, Vec<u8>)>,
 }
 
-const PROGRAMS: [Program; 2] = [
+const PROGRAMS: [Program; 3] = [
     Program { name: "trapread", answers: trapread, inputs: trapread_inputs },
+    Program { name: "logread", answers: logread, inputs: log_runs::inputs },
     Program { name: "checker", answers: call::answers, inputs: checker_inputs },
 ];
 
@@ -31,25 +35,28 @@ pub fn run(directory: &Path) -> io::Result<bool> {
     let mut all_same = true;
     for program in &PROGRAMS {
         let path = directory.join(program.name);
-        for (input_name, input) in (program.inputs)() {
-            let expected = (program.answers)(&input);
-            for pieces in Pieces::all(input.len()) {
-                let written = feed(&path, &input, pieces)?;
-                let same = written == expected;
-                if !same {
+        let inputs = (program.inputs)();
+        let mut different = 0;
+        for (input_name, input) in &inputs {
+            let expected = (program.answers)(input);
+            for way in Way::ALL {
+                let written = feed(&path, input, way)?;
+                if written != expected {
+                    different += 1;
                     let at = written.iter().zip(&expected).position(|(a, b)| a != b);
                     let at = at.unwrap_or(written.len().min(expected.len()));
                     println!(
-                        "{} on {input_name}, {pieces:?}: wrote {} bytes for {}, first other at {at}",
+                        "{} on {input_name}, {way:?}: wrote {} bytes for {}, first other at {at}",
                         program.name,
                         written.len(),
                         expected.len()
                     );
                 }
-                all_same &= same;
             }
         }
-        println!("{}: {}", program.name, if all_same { "same" } else { "DIFFERENT" });
+        let verdict = if different == 0 { "same" } else { "DIFFERENT" };
+        println!("{}: {} inputs, {verdict}", program.name, inputs.len());
+        all_same &= different == 0;
     }
     Ok(all_same)
 }
@@ -81,42 +88,29 @@ pub fn check(directory: &Path) -> io::Result<bool> {
 
 /// How an input is handed over.
 #[derive(Clone, Copy, Debug)]
-enum Pieces {
-    /// As fast as the pipe takes it.
+enum Way {
+    /// As a file that is the program's standard input.
+    File,
+    /// As fast as a pipe takes it.
     AtOnce,
-    /// A few bytes at a time, each after a pause.
+    /// A few bytes at a time through a pipe, each after a pause.
     Few,
 }
 
-impl Pieces {
-    /// A long input is handed over at once alone: each pause takes time.
-    fn all(length: usize) -> Vec<Pieces> {
-        match length {
-            0..=1000 => vec![Pieces::AtOnce, Pieces::Few],
-            _ => vec![Pieces::AtOnce],
-        }
-    }
+impl Way {
+    const ALL: [Way; 3] = [Way::File, Way::AtOnce, Way::Few];
 }
 
 /// What a program writes for an input. One that stops reading early has
 /// written what it has written.
-fn feed(path: &Path, input: &[u8], pieces: Pieces) -> io::Result<Vec<u8>> {
-    let mut child = Command::new(path).stdin(Stdio::piped()).stdout(Stdio::piped()).spawn()?;
-    let id = child.id();
-    let mut stdin = child.stdin.take().expect("a pipe");
-    let mut stdout = child.stdout.take().expect("a pipe");
-    let mut written = Vec::new();
-    thread::scope(|scope| {
-        let writer = scope.spawn(move || match pieces {
-            Pieces::AtOnce => stdin.write_all(input),
-            Pieces::Few => write_few(&mut stdin, input, id),
-        });
-        stdout.read_to_end(&mut written)?;
-        match writer.join().expect("a writer that ends") {
-            Err(error) if error.kind() != io::ErrorKind::BrokenPipe => Err(error),
-            _ => Ok(()),
-        }
-    })?;
+fn feed(path: &Path, input: &[u8], way: Way) -> io::Result<Vec<u8>> {
+    let mut command = Command::new(path);
+    command.stdout(Stdio::piped());
+    let mut child = match way {
+        Way::File => command.stdin(file_of(input)?).spawn()?,
+        Way::AtOnce | Way::Few => command.stdin(Stdio::piped()).spawn()?,
+    };
+    let written = hand_over(&mut child, input, way)?;
     let status = child.wait()?;
     match status.success() {
         true => Ok(written),
@@ -124,15 +118,48 @@ fn feed(path: &Path, input: &[u8], pieces: Pieces) -> io::Result<Vec<u8>> {
     }
 }
 
-/// Pieces of one to seven bytes, each when the program has read the one before
+/// A file of these bytes that no folder names any more.
+fn file_of(input: &[u8]) -> io::Result<File> {
+    let path = env::temp_dir().join(format!("second-{}", process::id()));
+    fs::write(&path, input)?;
+    let file = File::open(&path)?;
+    fs::remove_file(&path)?;
+    Ok(file)
+}
+
+/// Writes the input into the program's pipe, where it has one, while reading
+/// what it writes.
+fn hand_over(child: &mut Child, input: &[u8], way: Way) -> io::Result<Vec<u8>> {
+    let id = child.id();
+    let stdin = child.stdin.take();
+    let mut stdout = child.stdout.take().expect("a pipe");
+    let mut written = Vec::new();
+    let write = move |mut pipe: ChildStdin| match way {
+        Way::Few => write_few(&mut pipe, input, id),
+        Way::File | Way::AtOnce => pipe.write_all(input),
+    };
+    thread::scope(|scope| {
+        let writer = scope.spawn(move || stdin.map_or(Ok(()), write));
+        stdout.read_to_end(&mut written)?;
+        match writer.join().expect("a writer that ends") {
+            Err(error) if error.kind() != io::ErrorKind::BrokenPipe => Err(error),
+            _ => Ok(()),
+        }
+    })?;
+    Ok(written)
+}
+
+/// Pieces of one to seven bytes, of a long input of one to seven times as many
+/// as make some hundred pieces; each when the program has read the one before
 /// and waits for more.
 fn write_few(pipe: &mut impl Write, input: &[u8], id: u32) -> io::Result<()> {
+    let unit = 1 + input.len() / 1000;
     let mut rest = input;
-    for length in (1..=7).cycle() {
+    for times in (1..=7).cycle() {
         if rest.is_empty() {
             return Ok(());
         }
-        let (piece, after) = rest.split_at(length.min(rest.len()));
+        let (piece, after) = rest.split_at((times * unit).min(rest.len()));
         wait_until_asleep(id)?;
         pipe.write_all(piece)?;
         rest = after;
@@ -185,8 +212,13 @@ fn trapread(input: &[u8]) -> Vec<u8> {
     questions.iter().map(answer).collect::<String>().into_bytes()
 }
 
-/// The paper's own lines, inputs that end in every way, and a long one.
-fn trapread_inputs() -> Vec<(&'static str, Vec<u8>)> {
+/// What the log reader writes for a log.
+fn logread(input: &[u8]) -> Vec<u8> {
+    log::shown(input).into_bytes()
+}
+
+/// The paper's own lines, inputs that end in every way, and long ones.
+fn trapread_inputs() -> Vec<(String, Vec<u8>)> {
     let paper = "0 0000000092000005\n1 0000000092000018\nx\n";
     let texts = [
         ("the paper's three lines", paper),
@@ -206,21 +238,21 @@ fn trapread_inputs() -> Vec<(&'static str, Vec<u8>)> {
         ("other spaces", "0\t0000000092000005\n 0 0000000092000005\n0 0000000092000005 \n"),
         ("other ends", "0 0000000092000005\r\n0 0000000092000005\0\n"),
     ];
-    let mut inputs: Vec<_> = texts.map(|(name, text)| (name, text.as_bytes().to_vec())).into();
+    let mut inputs = named(&texts);
     inputs.push((
-        "some hundred KiB",
-        long_input(18, |random| {
+        "some MiB".into(),
+        long_input(4 << 20, 18, |random| {
             let word =
                 if random.below(2) == 0 { 0x9200_0000 + random.below(64) } else { random.next() };
             format!("{:x} {word:016x}", random.below(16))
         }),
     ));
-    inputs.push(("a line of some hundred KiB", "0".repeat(300_000).into_bytes()));
-    inputs.push(("some hundred thousand newlines", "\n".repeat(200_000).into_bytes()));
+    inputs.push(("a line of some MiB".into(), "0".repeat(3 << 20).into_bytes()));
+    inputs.push(("some million newlines".into(), "\n".repeat(2 << 20).into_bytes()));
     inputs
 }
 
-fn checker_inputs() -> Vec<(&'static str, Vec<u8>)> {
+fn checker_inputs() -> Vec<(String, Vec<u8>)> {
     let texts = [
         ("nothing", ""),
         ("a newline", "\n"),
@@ -228,10 +260,10 @@ fn checker_inputs() -> Vec<(&'static str, Vec<u8>)> {
         ("a last line that is no row", "read 0 92000005\nread 1"),
         ("a last line of a space", "read 0 92000005\n "),
     ];
-    let mut inputs: Vec<_> = texts.map(|(name, text)| (name, text.as_bytes().to_vec())).into();
+    let mut inputs = named(&texts);
     inputs.push((
-        "some hundred KiB",
-        long_input(4, |random| {
+        "some hundred KiB".into(),
+        long_input(300_000, 4, |random| {
             let word = 0x9200_0000 + random.below(0x100);
             format!(
                 "trap {:x} {word:x} {:x} {:x}",
@@ -241,16 +273,21 @@ fn checker_inputs() -> Vec<(&'static str, Vec<u8>)> {
             )
         }),
     ));
-    inputs.push(("a line of some hundred KiB", "read ".repeat(60_000).into_bytes()));
-    inputs.push(("some hundred thousand newlines", "\n".repeat(200_000).into_bytes()));
+    inputs.push(("a line of some hundred KiB".into(), "read ".repeat(60_000).into_bytes()));
+    inputs.push(("some hundred thousand newlines".into(), "\n".repeat(200_000).into_bytes()));
     inputs
 }
 
-/// Lines drawn at random, now and then one that is cut short, some 300 KiB.
-fn long_input(shortest: u64, line: impl Fn(&mut Random) -> String) -> Vec<u8> {
+fn named(texts: &[(&str, &str)]) -> Vec<(String, Vec<u8>)> {
+    texts.iter().map(|&(name, text)| (name.into(), text.into())).collect()
+}
+
+/// Lines drawn at random, now and then one that is cut short, until there are
+/// so many bytes.
+fn long_input(length: usize, shortest: u64, line: impl Fn(&mut Random) -> String) -> Vec<u8> {
     let mut random = Random::seeded(6);
     let mut input = String::new();
-    while input.len() < 300_000 {
+    while input.len() < length {
         let mut line = line(&mut random);
         if random.below(16) == 0 {
             line.truncate(random.below(shortest) as usize);

@@ -1,9 +1,13 @@
 -- Request C-14: a log as lines of text, for the fitter. The first line tells how the log was read.
 use Prim.Native.Nat.{ℕ}
-use mathlib.Core.List.{List, _++_}
+use mathlib.Core.List.{List, [], _++_}
+use Rattle.address.specs.declared.Far.{Far}
+use Rattle.address.specs.declared.Hpfar.{Hpfar}
 use Rattle.log.specs.Answer.{numberOf, sectionIn}
 use Rattle.log.specs.declared.answer.Read.{Read}
 use Rattle.log.specs.declared.answer.Read.the-variants.{Accepted, TooLong, CutShort, LeftOver, Unequal}
+use Rattle.log.specs.declared.entry.Entry.{Entry}
+use Rattle.record.specs.declared.kinds.Esr.{Esr}
 use Rattle.text.specs.Ascii.{ascii}
 use Rattle.text.specs.Numeral.{decimalText, hexText}
 
@@ -33,5 +37,14 @@ editionText edition = ascii "edition" ++ decimalField edition ++ ascii "\n"
 abbrev pub injectionText : ℕ → List ℕ
 injectionText injection = ascii "injection" ++ decimalField injection ++ ascii "\n"
 
-abbrev pub wordsText : ℕ → ℕ → ℕ → List ℕ
-wordsText esr far hpfar = ascii "trap" ++ hexField esr ++ hexField far ++ hexField hpfar ++ ascii "\n"
+-- an entry that has a line of its own; a trap's registers stand in two entries
+abbrev pub entryText : Entry → List ℕ
+entryText (Entry.Edition edition) = editionText edition
+entryText (Entry.Syndrome esr) = []
+entryText (Entry.Address far hpfar) = []
+entryText (Entry.Injection injection) = injectionText injection
+entryText Entry.None = []
+
+-- the three registers of a trap
+abbrev pub wordsText : Esr → Far → Hpfar → List ℕ
+wordsText esr far hpfar = ascii "trap" ++ hexField (esr .0) ++ hexField (far .0) ++ hexField (hpfar .0) ++ ascii "\n"

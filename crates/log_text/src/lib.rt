@@ -2,8 +2,12 @@
 ghost use mathlib.Core.List.{_++_};
 ghost use Rattle.text.specs.Ascii.{ascii};
 ghost use Rattle.text.specs.Append.{Appends};
-ghost use Rattle.log_text.specs.Lines.{decimalField, hexField, refusedText, readText, editionText, injectionText, wordsText};
+ghost use Rattle.log_text.specs.Lines.{decimalField, hexField, refusedText, readText, editionText, injectionText, entryText, wordsText};
+use address::Far;
+use address::Hpfar;
+use log::Entry;
 use log::Read;
+use record::Esr;
 
 // Appends a space and a number.
 pub fn decimal_field(out: &mut [u8], at: usize, n: u64) -> usize
@@ -63,13 +67,26 @@ pub fn injection_line(out: &mut [u8], at: usize, injection: u8) -> usize
     numbered(out, at, b"injection", injection as u64)
 }
 
+// An entry that has a line of its own. A trap's registers stand in two entries: `words_line` shows them together.
+pub fn entry_line(out: &mut [u8], at: usize, entry: Entry) -> usize
+    ensures { λ end. ⌜ Appends (entryText entry) (now (out .entry)) at (now (out .exit)) end ⌝ }
+{
+    match entry {
+        Entry::Edition(edition) => edition_line(out, at, edition),
+        Entry::Injection(injection) => injection_line(out, at, injection),
+        Entry::Syndrome(_) => at,
+        Entry::Address { far: _, hpfar: _ } => at,
+        Entry::None => at,
+    }
+}
+
 // The three registers of a trap.
-pub fn words_line(out: &mut [u8], at: usize, esr: u64, far: u64, hpfar: u64) -> usize
+pub fn words_line(out: &mut [u8], at: usize, esr: Esr, far: Far, hpfar: Hpfar) -> usize
     ensures { λ end. ⌜ Appends (wordsText esr far hpfar) (now (out .entry)) at (now (out .exit)) end ⌝ }
 {
     let word = text::append(out, at, b"trap");
-    let first = hex_field(out, word, esr);
-    let second = hex_field(out, first, far);
-    let third = hex_field(out, second, hpfar);
+    let first = hex_field(out, word, esr.0);
+    let second = hex_field(out, first, far.0);
+    let third = hex_field(out, second, hpfar.0);
     text::append(out, third, b"\n")
 }

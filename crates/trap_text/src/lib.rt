@@ -1,6 +1,11 @@
-// The whole trap's answer in an edition as a line of text, appended to a buffer as `text::append` does.
+// The whole trap's answer in an edition as a line of text, and a trap as its lines in several editions, appended to a buffer as `text::append`
+// does.
+ghost use mathlib.Core.Bool.{cond};
+ghost use mathlib.Core.List.{[]};
+ghost use Rattle.bits.specs.Field.{bitOf};
+ghost use Rattle.edition.specs.Feature.{editions};
 ghost use Rattle.text.specs.Append.{Appends};
-ghost use Rattle.trap_text.specs.Shown.{virtualText, intermediateText, trapText, refusalText, answerText, shownText};
+ghost use Rattle.trap_text.specs.Shown.{virtualText, intermediateText, takenText, refusalText, answerText, shownText, linesBelow, trapText};
 use address::Far;
 use address::Hpfar;
 use address::IntermediateAddress;
@@ -41,7 +46,7 @@ fn intermediate_field(out: &mut [u8], at: usize, address: IntermediateAddress) -
 }
 
 fn addresses(out: &mut [u8], at: usize, t: Trap) -> usize
-    ensures { λ end. ⌜ Appends (trapText t) (now (out .entry)) at (now (out .exit)) end ⌝ }
+    ensures { λ end. ⌜ Appends (takenText t) (now (out .entry)) at (now (out .exit)) end ⌝ }
 {
     let word = text::append(out, at, b" taken");
     match t {
@@ -75,15 +80,58 @@ fn answer(out: &mut [u8], at: usize, a: Answer) -> usize
 }
 
 // What an edition makes of a trap.
-pub fn shown_line(out: &mut [u8], at: usize, edition: u32, esr: u64, far: u64, hpfar: u64) -> usize
+pub fn shown_line(
+    out: &mut [u8],
+    at: usize,
+    edition: u32,
+    esr: Esr,
+    far: Far,
+    hpfar: Hpfar,
+) -> usize
     ensures { λ end. ⌜ Appends (shownText edition esr far hpfar) (now (out .entry)) at (now (out .exit)) end ⌝ }
 {
     let word = text::append(out, at, b"in");
     let number = decimal_field(out, word, edition as u64);
-    let told = answer(
-        out,
-        number,
-        trap::read(edition, Esr(esr), Far(far), Hpfar(hpfar)),
-    );
+    let told = answer(out, number, trap::read(edition, esr, far, hpfar));
     text::append(out, told, b"\n")
+}
+
+// The line of an edition that is in a mask.
+fn line_in(
+    out: &mut [u8],
+    at: usize,
+    mask: u32,
+    edition: u32,
+    esr: Esr,
+    far: Far,
+    hpfar: Hpfar,
+) -> usize
+    ensures { λ end. ⌜ Appends (cond (bitOf mask edition) (shownText edition esr far hpfar) []) (now (out .entry)) at (now (out .exit)) end ⌝ }
+{
+    if bits::bit(mask as u64, edition) {
+        shown_line(out, at, edition, esr, far, hpfar)
+    } else {
+        at
+    }
+}
+
+// What each edition of a mask makes of a trap, each once and in ascending order.
+fn lines_in(out: &mut [u8], at: usize, mask: u32, esr: Esr, far: Far, hpfar: Hpfar) -> usize
+    ensures { λ end. ⌜ Appends (linesBelow editions mask (λ e. shownText e esr far hpfar)) (now (out .entry)) at (now (out .exit)) end ⌝ }
+{
+    let mut end = at;
+    let mut e: u32 = 0;
+    while e < edition::EDITIONS {
+        end = line_in(out, end, mask, e, esr, far, hpfar);
+        e += 1;
+    }
+    end
+}
+
+// A trap: its registers, and what each edition of a mask makes of it.
+pub fn trap_lines(out: &mut [u8], at: usize, mask: u32, esr: Esr, far: Far, hpfar: Hpfar) -> usize
+    ensures { λ end. ⌜ Appends (trapText mask esr far hpfar) (now (out .entry)) at (now (out .exit)) end ⌝ }
+{
+    let words = log_text::words_line(out, at, esr, far, hpfar);
+    lines_in(out, words, mask, esr, far, hpfar)
 }

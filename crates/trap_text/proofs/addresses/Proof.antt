@@ -3,7 +3,7 @@
 use borrow.Author.Needs.{needs}
 use mathlib.Core.Path.{ap}
 use Rattle.text.proofs.Appending.{appends-both, appends-none}
-use Rattle.trap_text.specs.Shown.{trapText}
+use Rattle.trap_text.specs.Shown.{takenText}
 use Rattle.trap_text.proofs.addresses.Statement.{statement}
 use Rattle.trap_text.proofs.addresses.Tie as tie
 
@@ -36,7 +36,7 @@ same-length c = search needs
 
 returns : tie.Need-returns
 returns c =
-    rw (ap trapText (c .before .before .before .before .before .before .before .before .before .t .given .1))
+    rw (ap takenText (c .before .before .before .before .before .before .before .before .before .t .given .1))
     (appends-both (appends-both (c .before .before .before .before .before .before .before .before .before .before .before .before .before .append .ensures) (c .before .before .before .before .before .before .virtual-field .ensures)) (c .before .before .intermediate-field .ensures))
 
 same-length-2 : tie.Need-same-length-2
@@ -44,7 +44,7 @@ same-length-2 c = search needs
 
 returns-2 : tie.Need-returns-2
 returns-2 c =
-    rw (ap trapText (c .before .before .before .before .before .t2 .given .1))
+    rw (ap takenText (c .before .before .before .before .before .t2 .given .1))
     (appends-both (appends-both (c .before .before .before .before .before .before .before .before .before .append .ensures) (c .before .before .virtual-field2 .ensures)) (appends-none _ _))
 
 same-length-3 : tie.Need-same-length-3
@@ -52,7 +52,7 @@ same-length-3 c = search needs
 
 returns-3 : tie.Need-returns-3
 returns-3 c =
-    rw (ap trapText (c .enum-told .given .1))
+    rw (ap takenText (c .enum-told .given .1))
     (appends-both (appends-both (c .before .before .before .before .append .ensures) (appends-none _ _)) (appends-none _ _))
 
 pub addresses-spec : {M : Type 1} → statement M

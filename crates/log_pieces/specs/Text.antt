@@ -1,0 +1,53 @@
+-- The text of a log: how the log was read; and of a log that was accepted the editions seen, in the log's order, each trap with its registers and
+-- what each known edition among those seen makes of it, and the injections.
+use Prim.Native.Nat.{ℕ, zero, suc}
+use mathlib.Core.Bool.{Bool, false, cond, _||_}
+use mathlib.Core.List.{List, [], _∷_, _++_, map, zipWith, flatten}
+use lib.Dec.{eqb}
+use lib.ListN.{getD}
+use Rattle.edition.specs.Mask.{maskOf}
+use Rattle.log.specs.Log.{Address, Entries, entriesOf}
+use Rattle.log.specs.Answer.{numberOf, readOf}
+use Rattle.log_text.specs.Lines.{readText, editionText, injectionText}
+use Rattle.trap_text.specs.Shown.{trapText}
+
+-- the entries that are shown: those of a log that was accepted, and none of one that was refused
+abbrev pub nothing : Entries
+nothing = record { editions = []; syndromes = []; addresses = []; injections = [] }
+
+unfoldable pub shown : List ℕ → Entries
+shown s = cond (eqb (numberOf (readOf s)) 0) (entriesOf s) nothing
+
+-- the mask of the known editions among those seen
+abbrev pub among : List ℕ → ℕ → Bool
+among [] edition = false
+among (first ∷ rest) edition = eqb first edition || among rest edition
+
+abbrev pub seenMask : Entries → ℕ
+seenMask e = maskOf (among (e .editions))
+
+-- a trap's registers: its syndrome, and the address of the same place
+abbrev pub trapPiece : ℕ → ℕ → Address → List ℕ
+trapPiece seen esr a = trapText seen (record { 0 = esr }) (record { 0 = a .far }) (record { 0 = a .hpfar })
+
+-- the text in pieces, in their order, the traps in the editions of a mask: one for each edition, one for each trap, one for each injection
+unfoldable pub entryPieces : ℕ → Entries → List (List ℕ)
+entryPieces seen e =
+    map editionText (e .editions) ++ (zipWith (trapPiece seen) (e .syndromes) (e .addresses) ++ map injectionText (e .injections))
+
+-- how the log was read, and what it shows
+unfoldable pub piecesIn : ℕ → List ℕ → List (List ℕ)
+piecesIn seen s = readText (readOf s) ∷ entryPieces seen (shown s)
+
+-- in the known editions among those seen
+abbrev pub piecesOf : List ℕ → List (List ℕ)
+piecesOf s = piecesIn (seenMask (shown s)) s
+
+-- THE TEXT OF A LOG: its pieces, one after the other
+unfoldable pub logText : List ℕ → List ℕ
+logText s = flatten (piecesOf s)
+
+-- what stands written after n pieces
+abbrev pub writtenAfter : List ℕ → ℕ → List ℕ
+writtenAfter s zero = []
+writtenAfter s (suc n) = writtenAfter s n ++ getD (piecesOf s) n []

@@ -1,0 +1,80 @@
+// What is shown of a log: its entries where it was accepted, and none where it was refused. A section is named by how many lie before it.
+ghost use Prim.Native.Nat.{_<_};
+ghost use mathlib.Core.Path.{_≡_};
+ghost use lib.ListN.{length, getD};
+ghost use Rattle.log.specs.Look.{entryGiven};
+ghost use Rattle.log_pieces.specs.Text.{shown, among, seenMask};
+ghost use Rattle.log_pieces.specs.Inner.{countIn};
+use log::Entry;
+use log::Section;
+
+// How many entries of a section are shown.
+pub fn count(log: &[u8], passed: u32) -> usize
+    requires { ⌜ passed < 4 ⌝ }
+    ensures { λ n. ⌜ n ≡ countIn (shown (now (log .entry))) passed ⌝ }
+{
+    let answer = log::read(log);
+    if log::number_of(answer) != 0 {
+        return 0;
+    }
+    let found = log_reader::look_in(log, passed, 0);
+    let section = found.section;
+    match section {
+        Section::Whole { count, end: _ } => count,
+        Section::None => 0,
+    }
+}
+
+// Entry i of a section.
+pub fn entry(log: &[u8], passed: u32, i: usize) -> Entry
+    requires { ⌜ (passed < 4) × (i < countIn (shown (now log)) passed) ⌝ }
+    ensures { λ e. ⌜ e ≡ entryGiven (shown (now (log .entry))) passed i ⌝ }
+{
+    let found = log_reader::look_in(log, passed, i);
+    found.entry
+}
+
+// Edition i of those seen.
+fn edition_at(log: &[u8], i: usize) -> u32
+    requires { ⌜ i < length (shown (now log) .editions) ⌝ }
+    ensures { λ e. ⌜ e ≡ getD (shown (now (log .entry)) .editions) i 0 ⌝ }
+{
+    let found = entry(log, 0, i);
+    if let Entry::Edition(e) = found {
+        e as u32
+    } else {
+        0
+    }
+}
+
+// Whether an edition is among those seen.
+fn seen(log: &[u8], edition: u32) -> bool
+    ensures { λ yes. ⌜ yes ≡ among (shown (now (log .entry)) .editions) edition ⌝ }
+{
+    let n = count(log, 0);
+    let mut i = 0;
+    while i < n {
+        if edition_at(log, i) == edition {
+            return true;
+        }
+        i += 1;
+    }
+    false
+}
+
+// The mask of the known editions among those seen.
+pub fn known_editions(log: &[u8]) -> u32
+    ensures { λ m. ⌜ m ≡ seenMask (shown (now (log .entry))) ⌝ }
+{
+    let mut mask: u32 = 0;
+    let mut bit: u32 = 1;
+    let mut e: u32 = 0;
+    while e < edition::EDITIONS {
+        if seen(log, e) {
+            mask += bit;
+        }
+        bit *= 2;
+        e += 1;
+    }
+    mask
+}

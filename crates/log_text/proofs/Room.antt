@@ -1,0 +1,46 @@
+-- How long a line of a log can be.
+-- Assumes nothing.
+use mathlib.Core.List.{List, _++_}
+use Prim.Native.Nat.{ℕ, _+_, _≤_}
+use native.Mathlib.Omega.{arith}
+use lib.ListN.{length, length-append}
+use Rattle.address.specs.declared.Far.{Far}
+use Rattle.address.specs.declared.Hpfar.{Hpfar}
+use Rattle.log.specs.Answer.{numberOf, sectionIn}
+use Rattle.log.specs.declared.answer.Read.{Read}
+use Rattle.log.specs.declared.answer.Read.the-variants.{Accepted, TooLong, CutShort, LeftOver, Unequal}
+use Rattle.record.specs.declared.kinds.Esr.{Esr}
+use Rattle.text.proofs.Numerals.{decimal-length, hex-length}
+use Rattle.log_text.specs.Lines.{decimalField, hexField, refusedText, readText, editionText, injectionText, wordsText}
+
+pub decimal-field-length : (n : ℕ) → length (decimalField n) ≤ 21
+decimal-field-length n = omega (arith, decimal-length n)
+
+pub hex-field-length : (n : ℕ) → length (hexField n) ≤ 17
+hex-field-length n = omega (arith, hex-length n)
+
+refused-length : (a : Read) → length (refusedText a) ≤ 128
+refused-length a =
+    let n = decimal-length (numberOf a) in
+    let s = decimal-length (sectionIn a) in
+    simp length-append (omega arith)
+
+pub read-length : (a : Read) → length (readText a) ≤ 128
+read-length (Accepted gone) = let n = decimal-length gone in simp length-append (omega arith)
+read-length TooLong = refused-length TooLong
+read-length (CutShort section) = refused-length (CutShort section)
+read-length LeftOver = refused-length LeftOver
+read-length Unequal = refused-length Unequal
+
+pub edition-length : (edition : ℕ) → length (editionText edition) ≤ 128
+edition-length edition = let n = decimal-length edition in simp length-append (omega arith)
+
+pub injection-length : (injection : ℕ) → length (injectionText injection) ≤ 128
+injection-length injection = let n = decimal-length injection in simp length-append (omega arith)
+
+pub words-length : (esr : Esr) (far : Far) (hpfar : Hpfar) → length (wordsText esr far hpfar) ≤ 128
+words-length esr far hpfar =
+    let e = hex-length (esr .0) in
+    let f = hex-length (far .0) in
+    let h = hex-length (hpfar .0) in
+    simp length-append (omega arith)

@@ -1,0 +1,65 @@
+-- How long the lines of a trap can be: a line for its registers and one for each edition, none longer than 128 bytes.
+-- Assumes nothing.
+use mathlib.Core.Bool.{Bool, true, false, cond}
+use mathlib.Core.List.{List, [], _++_}
+use Prim.Native.Nat.{ℕ, zero, suc, _+_, _*_, _≤_}
+use native.Mathlib.Omega.{arith}
+use lib.ListN.{length, length-append}
+use Rattle.address.specs.declared.Far.{Far}
+use Rattle.address.specs.declared.Hpfar.{Hpfar}
+use Rattle.address.specs.declared.IntermediateAddress.{IntermediateAddress}
+use Rattle.address.specs.declared.VirtualAddress.{VirtualAddress}
+use Rattle.bits.specs.Field.{bitOf}
+use Rattle.edition.specs.Feature.{editions}
+use Rattle.log_text.proofs.Room.{decimal-field-length, hex-field-length, words-length}
+use Rattle.log_text.specs.Lines.{decimalField, hexField, wordsText}
+use Rattle.record.specs.declared.kinds.Esr.{Esr}
+use Rattle.trap.specs.Answer.{answerOf}
+use Rattle.trap.specs.Numbers.{trapNumber, trapMask, trapCount}
+use Rattle.trap.specs.Trap.{virtualIn, intermediateIn}
+use Rattle.trap.specs.declared.Answer.{Answer}
+use Rattle.trap.specs.declared.Trap.{Trap}
+use Rattle.trap.specs.declared.TrapRefusal.{TrapRefusal}
+use Rattle.trap_text.specs.Shown.{virtualText, intermediateText, takenText, refusalText, answerText, shownText, linesBelow, trapText}
+
+virtual-length : (a : VirtualAddress) → length (virtualText a) ≤ 32
+virtual-length (VirtualAddress.Known address) = let n = hex-field-length address in simp length-append (omega arith)
+virtual-length VirtualAddress.Unknown = omega arith
+
+intermediate-length : (a : IntermediateAddress) → length (intermediateText a) ≤ 32
+intermediate-length IntermediateAddress.None = omega arith
+intermediate-length (IntermediateAddress.Page address) = let n = hex-field-length address in simp length-append (omega arith)
+intermediate-length (IntermediateAddress.Byte address) = let n = hex-field-length address in simp length-append (omega arith)
+
+answer-length : (a : Answer) → length (answerText a) ≤ 80
+answer-length (Answer.Shown t) =
+    let v = virtual-length (virtualIn t) in
+    let i = intermediate-length (intermediateIn t) in
+    simp length-append (omega arith)
+answer-length (Answer.Refused r) =
+    let n = decimal-field-length (trapNumber r) in
+    let m = decimal-field-length (trapMask r) in
+    let c = decimal-field-length (trapCount r) in
+    simp length-append (omega arith)
+
+shown-length : (edition : ℕ) (esr : Esr) (far : Far) (hpfar : Hpfar) → length (shownText edition esr far hpfar) ≤ 128
+shown-length edition esr far hpfar =
+    let n = decimal-field-length edition in
+    let a = answer-length (answerOf edition esr far hpfar) in
+    simp length-append (omega arith)
+
+lines-length : (n mask : ℕ) (line : ℕ → List ℕ) → ((e : ℕ) → length (line e) ≤ 128) → length (linesBelow n mask line) ≤ 128 * n
+unfolding linesBelow
+lines-length zero mask line h = omega arith
+lines-length (suc n) mask line h = go (bitOf mask n) (lines-length n mask line h) (h n)
+  where
+    go : (t : Bool) → length (linesBelow n mask line) ≤ 128 * n → length (line n) ≤ 128
+        → length (linesBelow n mask line ++ cond t (line n) []) ≤ 128 * suc n
+    go true below here = simp length-append (omega arith)
+    go false below here = simp length-append (omega arith)
+
+pub trap-length : (mask : ℕ) (esr : Esr) (far : Far) (hpfar : Hpfar) → length (trapText mask esr far hpfar) ≤ 4096
+trap-length mask esr far hpfar =
+    let w = words-length esr far hpfar in
+    let l = lines-length editions mask (λ e. shownText e esr far hpfar) (λ e. shown-length e esr far hpfar) in
+    simp (length-append (wordsText esr far hpfar)) (omega arith)
