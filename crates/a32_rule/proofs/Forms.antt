@@ -14,21 +14,21 @@ use Rattle.a32_fields.specs.Layout.{fieldsWord}
 use Rattle.a32_fields.specs.Split.{fieldsAt}
 use Rattle.a32_fields.specs.declared.kinds.Fields.{Fields}
 use Rattle.a32_rule.specs.Legal.{legal}
-use Rattle.a32_rule.specs.Answer.{has, isForm, decodeOf, encodeOf, numberDecoded, numberEncoded}
+use Rattle.a32_rule.specs.Answer.{loadsAndStores, isForm, decodeOf, encodeOf, numberDecoded, numberEncoded}
 use Rattle.a32_rule.specs.declared.answer.Decoded.{Decoded}
 use Rattle.a32_rule.specs.declared.answer.Encoded.{Encoded}
-use Rattle.a32_rule.proofs.Instance.{no-word-test, no-fields-test, has-legal, sound}
+use Rattle.a32_rule.proofs.Instance.{has-legal, sound}
 use Rattle.a32_rule.proofs.Answers.{decode-taken, decode-refused, encode-word, encode-refused, decode-number, encode-number}
 
 -- A WORD IS ONE OF THESE FORMS exactly when some legal fields make it
 pub is-form-exactly : (w : ℕ) → (isForm w ≡ true) ↔ ((f : Fields) × (legal f ≡ true) × (fieldsWord f ≡ w))
 is-form-exactly w =
-    let law = Forms.has-word-exactly 1 fieldsWord has fieldsAt no-word-test no-fields-test sound 0 w in
+    let law = Forms.has-word-exactly loadsAndStores sound 0 w in
     (λ h. let found = law .0 h in (found .0, has-legal 0 (found .0) (found .1), found .2), λ f. law .1 f)
 
 -- two legal sets of fields that make one word are one
 pub same-fields : (f g : Fields) → legal f ≡ true → legal g ≡ true → fieldsWord f ≡ fieldsWord g → f ≡ g
-same-fields f g hf hg same = Forms.same-record 1 fieldsWord has fieldsAt no-word-test no-fields-test sound 0 0 f g hf hg same
+same-fields f g hf hg same = Forms.same-record loadsAndStores sound 0 0 f g hf hg same
 
 -- READING: the answer is some fields exactly when they are legal and make the word
 pub decode-exactly : (w : ℕ) (f : Fields) → (decodeOf w ≡ Decoded.Taken f) ↔ ((legal f ≡ true) × (fieldsWord f ≡ w))
@@ -36,7 +36,7 @@ decode-exactly w f = (by (isForm w) refl, back)
   where
     by : (b : Bool) → isForm w ≡ b → decodeOf w ≡ Decoded.Taken f → (legal f ≡ true) × (fieldsWord f ≡ w)
     by true h t =
-        let found = Forms.word-record 1 fieldsWord has fieldsAt no-word-test no-fields-test sound 0 w h in
+        let found = Forms.word-record loadsAndStores sound 0 w h in
         let q = decode-taken w h in
         let same : fieldsAt w ≡ f = cc (t, q) in
         (ap legal (sym same) ∙ has-legal 0 (fieldsAt w) (found .0), ap fieldsWord (sym same) ∙ found .1)
@@ -45,7 +45,7 @@ decode-exactly w f = (by (isForm w) refl, back)
     back : (legal f ≡ true) × (fieldsWord f ≡ w) → decodeOf w ≡ Decoded.Taken f
     back h =
         decode-taken w (is-form-exactly w .1 (f, h .0, h .1))
-        ∙ ap Decoded.Taken (Forms.at-record 1 fieldsWord has fieldsAt no-word-test no-fields-test sound 0 f (h .0) w (h .1))
+        ∙ ap Decoded.Taken (Forms.at-record loadsAndStores sound 0 f (h .0) w (h .1))
 
 -- WRITING: the answer is a word exactly when the fields are legal and make it
 pub encode-exactly : (f : Fields) (w : ℕ) → (encodeOf f ≡ Encoded.Word w) ↔ ((legal f ≡ true) × (fieldsWord f ≡ w))
@@ -60,7 +60,7 @@ pub taken-form : (w : ℕ) (f : Fields) → decodeOf w ≡ Decoded.Taken f → (
 taken-form w f t =
     let h = decode-exactly w f .0 t in
     let is = is-form-exactly w .1 (f, h .0, h .1) in
-    (is, Forms.at-record 1 fieldsWord has fieldsAt no-word-test no-fields-test sound 0 f (h .0) w (h .1))
+    (is, Forms.at-record loadsAndStores sound 0 f (h .0) w (h .1))
 
 pub refused-form : (w : ℕ) → decodeOf w ≡ Decoded.Refused → isForm w ≡ false
 refused-form w t = by (isForm w) refl

@@ -17,9 +17,13 @@ use Rattle.a32_rule.specs.declared.answer.Encoded.{Encoded}
 abbrev pub has : ℕ → Fields → Bool
 has e f = eqb e 0 && legal f
 
+-- loads and stores as a form; neither reading nor writing has a test of its own
+abbrev pub loadsAndStores : Form.Form Fields
+loadsAndStores = record { editions = 1; word = fieldsWord; at = fieldsAt; has = has; reading = λ w. []; writing = λ f. [] }
+
 -- a word is one of these forms: some legal fields make it (`is-form-exactly`, proofs/Forms.antt)
 abbrev pub isForm : ℕ → Bool
-isForm w = Form.hasWord fieldsWord has fieldsAt 0 w
+isForm w = Form.hasWord loadsAndStores 0 w
 
 unfoldable pub decodeOf : ℕ → Decoded
 decodeOf w = cond (isForm w) (Decoded.Taken (fieldsAt w)) Decoded.Refused

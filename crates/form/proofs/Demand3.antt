@@ -3,51 +3,68 @@
 -- Assumes nothing.
 use mathlib.Core.Path.{_≡_, refl, _∙_, sym, ap}
 use mathlib.Core.Bool.{Bool, true, false}
-use mathlib.Core.List.{List}
 use Prim.Native.Nat.{ℕ}
 use lib.Count.{ones}
 use lib.Dec.{ltb}
-use Rattle.bits.specs.Decide.{Test}
-use Rattle.edition.specs.declared.Refusal.{Refusal}
 use Rattle.edition.specs.declared.Refusal.the-variants.{OtherEditions}
-use Rattle.form.specs.Answer.{given, refused}
+use Rattle.form.specs.Answer.{Answer, given, refused}
 use Rattle.form.specs.Call.{others}
-use Rattle.form.specs.Form.{hasWord, readAs, writeAs, readBack}
+use Rattle.form.specs.Form.{Form, hasWord, readAs, writeAs, readBack}
 use Rattle.form.proofs.Calls.{call-unknown, others-six}
 use Rattle.form.proofs.Forms.{Sound, same-record, word-as-record, has-word, word-mask, own-reading}
+use Rattle.form.proofs.Shows.{Shows, shown-alike}
 use Rattle.form.proofs.Demand2.{written-had, taken-had, had-taken}
 
-module _ {R : Type 0} (n : ℕ) (word : R → ℕ) (has : ℕ → R → Bool) (at : ℕ → R) (reading : ℕ → List (Test Refusal)) (writing : R → List (Test Refusal)) (s : Sound n word has at reading writing) where
+module _ {R : Type 0} (f : Form R) (s : Sound f) where
   -- the edition a puts out the word w for the record r
-  module _ (a b w : ℕ) (r : R) (put : writeAs n word has writing a r ≡ given w) where
-    had : has a r ≡ true
-    had = written-had n word has at reading writing s a w r put .0
+  module _ (a b w : ℕ) (r : R) (put : writeAs f a r ≡ given w) where
+    had : f .has a r ≡ true
+    had = written-had f s a w r put .0
 
-    made : word r ≡ w
-    made = written-had n word has at reading writing s a w r put .1
+    made : f .word r ≡ w
+    made = written-had f s a w r put .1
 
     -- an edition that has the record gives it back
-    pub given-back : has b r ≡ true → readAs n word has at reading b w ≡ given r
-    given-back h = had-taken n word has at reading writing s b w r h made
+    back : f .has b r ≡ true → readAs f b w ≡ given r
+    back h = had-taken f s b w r h made
 
     -- and no other edition gives back any record
-    pub given-back-only : (t : R) → readAs n word has at reading b w ≡ given t → has b r ≡ true
-    given-back-only t took =
-        let back = taken-had n word has at reading writing s b w t took in
-        ap (has b) (same-record n word has at reading writing s a b r t had (back .0) (made ∙ sym (back .1))) ∙ back .0
+    back-only : (t : R) → readAs f b w ≡ given t → f .has b r ≡ true
+    back-only t took =
+        let again = taken-had f s b w t took in
+        ap (f .has b) (same-record f s a b r t had (again .0) (made ∙ sym (again .1))) ∙ again .0
 
     -- an edition that doesn't have the record answers 6, with the editions that have it and their number
-    pub refused-six : ltb b n ≡ true → has b r ≡ false → readAs n word has at reading b w ≡ refused (others n (λ x. has x r))
-    refused-six is hasn't =
-        others-six n (λ x. hasWord word has at x w) (reading w) b (at w) (own-reading n word has at reading writing s w)
-        (is, word-as-record n word has at reading writing s a r had w made b ∙ hasn't, (a, s .known a r had, has-word n word has at reading writing s a r had w made))
-        ∙ ap (λ (m : ℕ). refused (OtherEditions m (ones m))) (word-mask n word has at reading writing s a r had w made)
+    six : ltb b (f .editions) ≡ true → f .has b r ≡ false → readAs f b w ≡ refused (others (f .editions) (λ x. f .has x r))
+    six is hasn't =
+        others-six (f .editions) (λ x. hasWord f x w) (f .reading w) b (f .at w) (own-reading f s w)
+        (is, word-as-record f s a r had w made b ∙ hasn't, (a, s .known a r had, has-word f s a r had w made))
+        ∙ ap (λ (m : ℕ). refused (OtherEditions m (ones m))) (word-mask f s a r had w made)
 
-    -- DEMAND 3 in one equation
-    pub read-back : readAs n word has at reading b w ≡ readBack n has b r
-    read-back = by (ltb b n) refl (has b r) refl
+    as-read-back : readAs f b w ≡ readBack f b r
+    as-read-back = by (ltb b (f .editions)) refl (f .has b r) refl
       where
-        by : (k : Bool) → ltb b n ≡ k → (h : Bool) → has b r ≡ h → readAs n word has at reading b w ≡ readBack n has b r
-        by true is true h = given-back h ∙ simp (is, h)
-        by true is false hasn't = refused-six is hasn't ∙ simp (is, hasn't)
-        by false isn't h same = call-unknown n (λ x. hasWord word has at x w) (reading w) b (at w) isn't ∙ simp isn't
+        by : (k : Bool) → ltb b (f .editions) ≡ k → (h : Bool) → f .has b r ≡ h → readAs f b w ≡ readBack f b r
+        by true is true h = back h ∙ simp (is, h)
+        by true is false hasn't = six is hasn't ∙ simp (is, hasn't)
+        by false isn't h same = call-unknown (f .editions) (λ x. hasWord f x w) (f .reading w) b (f .at w) isn't ∙ simp isn't
+
+  -- the same in the answers of code
+  module _ {X Y : Type 0} {shown : Answer R → X} {means : X → Answer R} (reads : Shows shown means) {put : Answer ℕ → Y} {told : Y → Answer ℕ} (writes : Shows put told) where
+    module _ (a b w : ℕ) (r : R) (out : put (writeAs f a r) ≡ put (given w)) where
+      written : writeAs f a r ≡ given w
+      written = shown-alike writes _ _ out
+
+      pub given-back : f .has b r ≡ true → shown (readAs f b w) ≡ shown (given r)
+      given-back h = ap shown (back a b w r written h)
+
+      pub given-back-only : (t : R) → shown (readAs f b w) ≡ shown (given t) → f .has b r ≡ true
+      given-back-only t took = back-only a b w r written t (shown-alike reads _ _ took)
+
+      pub refused-six : ltb b (f .editions) ≡ true → f .has b r ≡ false
+          → shown (readAs f b w) ≡ shown (refused (others (f .editions) (λ x. f .has x r)))
+      refused-six is hasn't = ap shown (six a b w r written is hasn't)
+
+      -- DEMAND 3 in one equation
+      pub read-back : shown (readAs f b w) ≡ shown (readBack f b r)
+      read-back = ap shown (as-read-back a b w r written)

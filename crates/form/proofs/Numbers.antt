@@ -14,7 +14,7 @@ use Rattle.edition.specs.declared.Refusal.the-variants.{UnknownEdition, UpperHa
 use Rattle.edition.proofs.Masks.{mask-ones}
 use Rattle.form.specs.Answer.{Answer, given, refused, numberIn, maskIn, countIn}
 use Rattle.form.specs.Call.{others, callTests, callOf, sixOnly}
-use Rattle.form.specs.Form.{readBack}
+use Rattle.form.specs.Form.{Form, readBack}
 use Rattle.form.proofs.Calls.{NotSix, Own, Ending, unknown-edition, own-test, other-editions, passed, ending}
 
 -- what is said of an answer is what is said of the first refusal, or of what is given
@@ -66,55 +66,26 @@ module _ {A : Type 0} (n : ℕ) (test : ℕ → Bool) (own : List (Test Refusal)
       by (other-editions o q) = at (refused (others n test)) q (refl, mask-ones n test)
       by (passed is had q) = at (given a) q (refl, refl)
 
--- an answer of code says the paper's number, mask and count
-abbrev pub Says : {A X : Type 0} → (Answer A → X) → (X → ℕ) → (X → ℕ) → (X → ℕ) → Type 0
-Says {A} shown number mask count =
-    (r : Answer A) → (number (shown r) ≡ numberIn r) × (mask (shown r) ≡ maskIn r) × (count (shown r) ≡ countIn r)
-
--- THE NUMBERS of a call: that of its first test that fails; and with 6 alone the mask of the editions that have it, and how many they are
-pub call-says : {A X : Type 0} (shown : Answer A → X) (number mask count : X → ℕ) → Says shown number mask count
-    → (n : ℕ) (test : ℕ → Bool) (own : List (Test Refusal)) (e : ℕ) (a : A) → Own n test own
-    → (number (shown (callOf n test own e a)) ≡ decide (relabel refusalNumber (callTests n test own e)) 0)
-    × (mask (shown (callOf n test own e a)) ≡ sixOnly (number (shown (callOf n test own e a))) (maskBelow n test))
-    × (count (shown (callOf n test own e a)) ≡ sixOnly (number (shown (callOf n test own e a))) (countBelow n test))
-call-says shown number mask count says n test own e a ok =
-    let s = says (callOf n test own e a) in
-    let carries = call-carries n test own e a ok in (
-      s .0 ∙ call-number n test own e a,
-      s .1 ∙ carries .0 ∙ ap (λ (k : ℕ). sixOnly k (maskBelow n test)) (sym (s .0)),
-      s .2 ∙ carries .1 ∙ ap (λ (k : ℕ). sixOnly k (countBelow n test)) (sym (s .0)),
-    )
-
 -- what the reader's edition makes of a record that some edition put out: its number by two tests, and with 6 alone the mask and the count
-module _ {R : Type 0} (n : ℕ) (has : ℕ → R → Bool) (reader : ℕ) (r : R) where
-  back-number : numberIn (readBack n has reader r) ≡ cond (ltb reader n) (cond (has reader r) 0 6) 1
-  back-number = by (ltb reader n) (has reader r)
+module _ {R : Type 0} (f : Form R) (reader : ℕ) (r : R) where
+  pub back-number : numberIn (readBack f reader r) ≡ decide (needs (ltb reader (f .editions)) 1 ∷ needs (f .has reader r) 6 ∷ []) 0
+  back-number = by (ltb reader (f .editions)) (f .has reader r)
     where
-      by : (k h : Bool) → numberIn (cond k (cond h (given r) (refused (others n (λ x. has x r)))) (refused UnknownEdition)) ≡ cond k (cond h 0 6) 1
+      by : (k h : Bool)
+          → numberIn (cond k (cond h (given r) (refused (others (f .editions) (λ x. f .has x r)))) (refused UnknownEdition)) ≡ cond k (cond h 0 6) 1
       by true true = refl
       by true false = refl
       by false h = refl
 
   abbrev Names : Answer R → Type 0
   Names a =
-      (maskIn a ≡ sixOnly (numberIn a) (maskBelow n (λ x. has x r))) × (countIn a ≡ sixOnly (numberIn a) (countBelow n (λ x. has x r)))
+      (maskIn a ≡ sixOnly (numberIn a) (maskBelow (f .editions) (λ x. f .has x r)))
+      × (countIn a ≡ sixOnly (numberIn a) (countBelow (f .editions) (λ x. f .has x r)))
 
-  back-names : Names (readBack n has reader r)
-  back-names = by (ltb reader n) (has reader r)
+  pub back-names : Names (readBack f reader r)
+  back-names = by (ltb reader (f .editions)) (f .has reader r)
     where
-      by : (k h : Bool) → Names (cond k (cond h (given r) (refused (others n (λ x. has x r)))) (refused UnknownEdition))
+      by : (k h : Bool) → Names (cond k (cond h (given r) (refused (others (f .editions) (λ x. f .has x r)))) (refused UnknownEdition))
       by true true = (refl, refl)
-      by true false = (refl, mask-ones n (λ x. has x r))
+      by true false = (refl, mask-ones (f .editions) (λ x. f .has x r))
       by false h = (refl, refl)
-
-  -- the same of an answer of code
-  pub back-says : {X : Type 0} (shown : Answer R → X) (number mask count : X → ℕ) → Says shown number mask count
-      → (number (shown (readBack n has reader r)) ≡ cond (ltb reader n) (cond (has reader r) 0 6) 1)
-      × (mask (shown (readBack n has reader r)) ≡ sixOnly (number (shown (readBack n has reader r))) (maskBelow n (λ x. has x r)))
-      × (count (shown (readBack n has reader r)) ≡ sixOnly (number (shown (readBack n has reader r))) (countBelow n (λ x. has x r)))
-  back-says shown number mask count says =
-      let s = says (readBack n has reader r) in (
-        s .0 ∙ back-number,
-        s .1 ∙ back-names .0 ∙ ap (λ (k : ℕ). sixOnly k (maskBelow n (λ x. has x r))) (sym (s .0)),
-        s .2 ∙ back-names .1 ∙ ap (λ (k : ℕ). sixOnly k (countBelow n (λ x. has x r))) (sym (s .0)),
-      )

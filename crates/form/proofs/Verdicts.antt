@@ -33,16 +33,19 @@ made-mask n has joined word w made =
         ap (λ (b : Bool). eqb joined w && b) h ∙ and-false (eqb joined w)
         ∙ sym (ap (λ (b : Bool). eqb word w && b) h ∙ and-false (eqb word w))
 
--- what a call's answer is to code, and what it makes of a verdict
-pub call-verdict : {A X : Type 0} (answer : Answer A → X) (verdict : Verdict → X) (n : ℕ) (test : ℕ → Bool) (own : List (Test Refusal)) (e : ℕ) (a : A)
-    → answer (given a) ≡ verdict Taken → ((f : Refusal) → answer (refused f) ≡ verdict (Refused f)) → ltb e n ≡ true → AllPass own
-    → answer (callOf n test own e a) ≡ verdict (judgeOf e (maskBelow n test))
-call-verdict answer verdict n test own e a taken refusal is pass =
-    ap answer (call-judged n test own e a is pass) ∙ by (someHas n test) (test e) ∙ sym (ap verdict (judge-test n test e (ltb-true e n is)))
+-- what a verdict makes of what is to be given
+abbrev pub verdictOf : {A : Type 0} → A → Verdict → Answer A
+verdictOf a Taken = given a
+verdictOf a (Refused refusal) = refused refusal
+
+pub call-verdict : {A : Type 0} (n : ℕ) (test : ℕ → Bool) (own : List (Test Refusal)) (e : ℕ) (a : A) → ltb e n ≡ true → AllPass own
+    → callOf n test own e a ≡ verdictOf a (judgeOf e (maskBelow n test))
+call-verdict n test own e a is pass =
+    call-judged n test own e a is pass ∙ by (someHas n test) (test e) ∙ sym (ap (verdictOf a) (judge-test n test e (ltb-true e n is)))
   where
     by : (some has : Bool)
-        → answer (cond some (cond has (given a) (refused (others n test))) (refused NoEdition))
-        ≡ verdict (cond some (cond has Taken (Refused (others n test))) (Refused NoEdition))
-    by true true = taken
-    by true false = refusal (others n test)
-    by false has = refusal NoEdition
+        → cond some (cond has (given a) (refused (others n test))) (refused NoEdition)
+        ≡ verdictOf a (cond some (cond has Taken (Refused (others n test))) (Refused NoEdition))
+    by true true = refl
+    by true false = refl
+    by false has = refl

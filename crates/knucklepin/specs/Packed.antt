@@ -2,7 +2,7 @@
 use Prim.Native.Nat.{ℕ, _+_, _-_, _*_, _^_}
 use Rattle.edition.specs.Judge.{refusalNumber, refusalMask, refusalCount}
 use Rattle.edition.specs.declared.Refusal.{Refusal}
-use Rattle.syndrome.specs.Numbers.{numberRead, maskRead, countRead}
+use Rattle.syndrome.specs.Answer.{readNumbers}
 use Rattle.syndrome.specs.Reading.{readOf}
 use Rattle.syndrome.specs.Writing.{writeOf}
 use Rattle.syndrome.specs.declared.answer.Read.{Read}
@@ -13,7 +13,7 @@ abbrev pub packedRefusal : Refusal → ℕ
 packedRefusal f = refusalNumber f + refusalMask f * 2 ^ 8 + refusalCount f * 2 ^ 24
 
 abbrev pub packedAnswer : Read → ℕ
-packedAnswer a = numberRead a + maskRead a * 2 ^ 8 + countRead a * 2 ^ 24
+packedAnswer a = readNumbers .number a + readNumbers .mask a * 2 ^ 8 + readNumbers .count a * 2 ^ 24
 
 abbrev pub packedRead : ℕ → ℕ → ℕ
 packedRead e w = packedAnswer (readOf e (record { 0 = w }))

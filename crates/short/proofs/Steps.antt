@@ -1,6 +1,6 @@
 -- Reading and writing, one test after the other, as the code makes them.
 -- Assumes nothing.
-use mathlib.Core.Path.{_≡_, refl, sym, subst}
+use mathlib.Core.Path.{_≡_, sym, ap, subst}
 use mathlib.Core.Bool.{true, false, cond}
 use Prim.Native.Nat.{ℕ, _^_, _<_}
 use borrow.Author.Tests.{ltb-true}
@@ -9,12 +9,14 @@ use Rattle.bits.specs.Inner.{joinedFrom}
 use Rattle.bits.specs.Layout.{fitting}
 use Rattle.short_rule.specs.Edition.{editions, isEdition, maskOf}
 use Rattle.edition.specs.Judge.{judgeOf}
+use Rattle.edition.specs.declared.Refusal.{Refusal}
 use Rattle.edition.specs.declared.Refusal.the-variants.{UnknownEdition, UnknownClass, ShortInstruction, NoEdition}
 use Rattle.edition.specs.declared.Verdict.{Verdict}
 use Rattle.edition.proofs.Judgement.{judge-taken}
 use Rattle.form.specs.Call.{callOf}
 use Rattle.form.specs.Form as Form
-use Rattle.form.proofs.Verdicts.{made-mask, call-verdict}
+use Rattle.form.proofs.Shows.{again-given, again-refused, carried-given, carried-refused}
+use Rattle.form.proofs.Verdicts.{made-mask, verdictOf, call-verdict}
 use Rattle.short_record.specs.Class.{headOf}
 use Rattle.short_record.specs.Fields.{fieldsOf, recordWord}
 use Rattle.short_record.specs.Split.{recordAt}
@@ -25,19 +27,22 @@ use Rattle.short_rule.specs.Has.{has, recordIl, editionsOf}
 use Rattle.short_rule.proofs.Having.{has-fits}
 use Rattle.short.specs.Inner.{makes}
 use Rattle.short.specs.Tests.{classKnown, wordIl, readTests, writeTests}
-use Rattle.short.specs.Reading.{hasWord, asRead, readOf}
-use Rattle.short.specs.Writing.{asWritten, writeOf}
+use Rattle.short.specs.Form.{shortForm}
+use Rattle.short.specs.Answer.{asRead, asWritten, asCarried}
+use Rattle.short.specs.Reading.{hasWord, readOf}
+use Rattle.short.specs.Writing.{writeOf}
+use Rattle.short.specs.Carry.{rewrittenOf, carriedOf}
 use Rattle.short.specs.declared.answer.Read.{Read}
 use Rattle.short.specs.declared.answer.Written.{Written}
+use Rattle.short.specs.declared.answer.Carried.{Carried}
+use Rattle.short.proofs.Instance.{read-shows, written-shows}
 
 -- what each verdict makes of a record, and of a word
 abbrev pub readVerdict : Record → Verdict → Read
-readVerdict r Verdict.Taken = Read.Taken r
-readVerdict r (Verdict.Refused refusal) = Read.Refused refusal
+readVerdict r v = asRead (verdictOf r v)
 
 abbrev pub writeVerdict : ℕ → Verdict → Written
-writeVerdict w Verdict.Taken = Written.Word (record { 0 = w })
-writeVerdict w (Verdict.Refused refusal) = Written.Refused refusal
+writeVerdict w v = asWritten (verdictOf w v)
 
 module _ (e : ℕ) (hsr : Hsr) where
   pub read-unknown : isEdition e ≡ false → readOf e hsr ≡ Read.Refused UnknownEdition
@@ -58,8 +63,7 @@ module _ (e : ℕ) (hsr : Hsr) where
           → readOf e hsr ≡ readVerdict (recordAt (hsr .0)) (judgeOf e (maskOf (λ x. makes x (recordAt (hsr .0)) (hsr .0))))
       unfolding readOf Form.hasWord maskOf
       read-judged l =
-          call-verdict asRead (readVerdict (recordAt (hsr .0))) editions (λ x. hasWord x (hsr .0)) (readTests (hsr .0)) e (recordAt (hsr .0)) refl
-          (λ f. refl) k (c, (l, tt))
+          ap asRead (call-verdict editions (λ x. hasWord x (hsr .0)) (readTests (hsr .0)) e (recordAt (hsr .0)) k (c, (l, tt)))
 
 module _ (e : ℕ) (r : Record) where
   pub write-unknown : isEdition e ≡ false → writeOf e r ≡ Written.Refused UnknownEdition
@@ -79,7 +83,7 @@ module _ (e : ℕ) (r : Record) where
       pub write-judged : recordIl r ≡ true → writeOf e r ≡ writeVerdict (recordWord r) (judgeOf e (editionsOf r))
       unfolding writeOf maskOf
       write-judged l =
-          call-verdict asWritten (writeVerdict (recordWord r)) editions (λ x. has x r) (writeTests r) e (recordWord r) refl (λ f. refl) k (o, (l, tt))
+          ap asWritten (call-verdict editions (λ x. has x r) (writeTests r) e (recordWord r) k (o, (l, tt)))
 
 -- the editions that have a record which makes the word, by the word that is put together
 pub makes-mask : (r : Record) (w : ℕ) → cond (eqb (joinedFrom 0 (fieldsOf r)) w) (editionsOf r) 0 ≡ maskOf (λ e. makes e r w)
@@ -97,3 +101,22 @@ module _ (e : ℕ) (r : Record) (k : isEdition e ≡ true) (t : judgeOf e (editi
 
   pub joined-below : joinedFrom 0 (fieldsOf r) < 2 ^ 32
   joined-below = subst (λ (w : ℕ). w < 2 ^ 32) (sym joined-taken) (word-fits r fits)
+
+-- a word that is rewritten, by what reading answered, and a record that is carried, by what writing did
+module _ (e : ℕ) (hsr : Hsr) where
+  pub rewritten-taken : (r : Record) → readOf e hsr ≡ Read.Taken r → rewrittenOf e hsr ≡ Written.Word hsr
+  unfolding readOf rewrittenOf
+  rewritten-taken = again-given read-shows asWritten (hsr .0) (Form.readAs shortForm e (hsr .0))
+
+  pub rewritten-refused : (refusal : Refusal) → readOf e hsr ≡ Read.Refused refusal → rewrittenOf e hsr ≡ Written.Refused refusal
+  unfolding readOf rewrittenOf
+  rewritten-refused = again-refused read-shows asWritten (hsr .0) (Form.readAs shortForm e (hsr .0))
+
+module _ (writer reader : ℕ) (r : Record) where
+  pub carried-word : (hsr : Hsr) → writeOf writer r ≡ Written.Word hsr → carriedOf writer reader r ≡ asCarried (Form.readBack shortForm reader r)
+  unfolding writeOf carriedOf
+  carried-word hsr = carried-given written-shows Carried.Unwritten asCarried shortForm reader r (Form.writeAs shortForm writer r) (hsr .0)
+
+  pub carried-unwritten : (refusal : Refusal) → writeOf writer r ≡ Written.Refused refusal → carriedOf writer reader r ≡ Carried.Unwritten refusal
+  unfolding writeOf carriedOf
+  carried-unwritten = carried-refused written-shows Carried.Unwritten asCarried shortForm reader r (Form.writeAs shortForm writer r)

@@ -1,5 +1,6 @@
-pub mod Numbers
 pub mod Tests
+pub mod Form
+pub mod Answer
 pub mod Reading
 pub mod Writing
 pub mod Carry

@@ -1,70 +1,47 @@
 -- Demand 2 for words: in each edition a syndrome is taken exactly when some record that the edition has writes to it, and writing that record gives the
 -- same word.
 -- Assumes nothing.
-use mathlib.Core.Path.{_≡_, refl, ap}
+use mathlib.Core.Path.{_≡_}
 use mathlib.Core.Bool.{true}
 use mathlib.Core.Logic.{_↔_}
 use Prim.Native.Nat.{ℕ}
-use Rattle.bits.proofs.Arms.{absurd-answer}
-use Rattle.edition.specs.Feature.{editions}
-use Rattle.form.specs.Answer.{Answer, given, refused}
-use Rattle.form.specs.Form as Form
 use Rattle.form.proofs.Forms as Forms
 use Rattle.form.proofs.Demand2 as Forms2
 use Rattle.record.specs.Fields.{recordWord}
-use Rattle.record.specs.Split.{recordAt}
 use Rattle.record.specs.declared.kinds.Esr.{Esr}
 use Rattle.record.specs.declared.kinds.Record.{Record}
 use Rattle.rule.specs.Has.{has}
-use Rattle.syndrome.specs.Tests.{readTests, writeTests}
-use Rattle.syndrome.specs.Reading.{hasWord, asRead, readOf}
-use Rattle.syndrome.specs.Writing.{asWritten, writeOf}
+use Rattle.syndrome.specs.Form.{longForm}
+use Rattle.syndrome.specs.Reading.{hasWord, readOf}
+use Rattle.syndrome.specs.Writing.{writeOf}
 use Rattle.syndrome.specs.declared.answer.Read.{Read}
 use Rattle.syndrome.specs.declared.answer.Written.{Written}
-use Rattle.syndrome.proofs.Instance.{sound}
-
--- a record or a word is given exactly where the call's answer gives it
-pub read-given : (a : Answer Record) (r : Record) → asRead a ≡ Read.Taken r → a ≡ given r
-read-given (given s) r e = cc
-read-given (refused f) r e = absurd-answer (cc)
-
-pub written-given : (a : Answer ℕ) (w : ℕ) → asWritten a ≡ Written.Word (record { 0 = w }) → a ≡ given w
-written-given (given v) w e = ap (λ (n : ℕ). given n) (ap wordIn e)
-  where
-    wordIn : Written → ℕ
-    wordIn (Written.Word esr) = esr .0
-    wordIn (Written.Refused refusal) = 0
-written-given (refused f) w e = absurd-answer (cc)
+use Rattle.syndrome.proofs.Instance.{sound, read-shows, written-shows}
 
 -- READING: the answer is a record exactly when the edition has it and it makes the word
 pub read-exactly : (e : ℕ) (esr : Esr) (r : Record) → (readOf e esr ≡ Read.Taken r) ↔ ((has e r ≡ true) × (recordWord r ≡ esr .0))
 unfolding readOf
-read-exactly e esr r =
-    let law = Forms2.read-exactly editions recordWord has recordAt readTests writeTests sound e (esr .0) r in
-    (λ t. law .0 (read-given _ r t), λ h. ap asRead (law .1 h))
+read-exactly e esr r = Forms2.read-exactly longForm sound read-shows written-shows e (esr .0) r
 
 -- WRITING: the answer is a word exactly when the edition has the record and the record makes the word
 pub write-exactly : (e w : ℕ) (r : Record) → (writeOf e r ≡ Written.Word (record { 0 = w })) ↔ ((has e r ≡ true) × (recordWord r ≡ w))
 unfolding writeOf
-write-exactly e w r =
-    let law = Forms2.write-exactly editions recordWord has recordAt readTests writeTests sound e w r in
-    (λ t. law .0 (written-given _ w t), λ h. ap asWritten (law .1 h))
+write-exactly e w r = Forms2.write-exactly longForm sound read-shows written-shows e w r
 
 -- DEMAND 2: a word is read as a record exactly when that record is written to the same word
 pub read-as-written : (e : ℕ) (esr : Esr) (r : Record) → (readOf e esr ≡ Read.Taken r) ↔ (writeOf e r ≡ Written.Word esr)
-read-as-written e esr r = (
-  λ t. write-exactly e (esr .0) r .1 (read-exactly e esr r .0 t),
-  λ t. read-exactly e esr r .1 (write-exactly e (esr .0) r .0 t),
-)
+unfolding readOf writeOf
+read-as-written e esr r = Forms2.read-as-written longForm sound read-shows written-shows e (esr .0) r
 
 -- a word is taken exactly when some record writes to it
 pub taken-exactly : (e : ℕ) (esr : Esr) → ((r : Record) × (readOf e esr ≡ Read.Taken r)) ↔ ((r : Record) × (writeOf e r ≡ Written.Word esr))
-taken-exactly e esr = (λ t. (t .0, read-as-written e esr (t .0) .0 (t .1)), λ t. (t .0, read-as-written e esr (t .0) .1 (t .1)))
+unfolding readOf writeOf
+taken-exactly e esr = Forms2.taken-exactly longForm sound read-shows written-shows e (esr .0)
 
 -- an edition has a word exactly when it has a record that makes the word
 pub has-word-exactly : (e w : ℕ) → (hasWord e w ≡ true) ↔ ((r : Record) × (has e r ≡ true) × (recordWord r ≡ w))
-has-word-exactly = Forms.has-word-exactly editions recordWord has recordAt readTests writeTests sound
+has-word-exactly = Forms.has-word-exactly longForm sound
 
 -- two records that editions have and that make one word are one record
 pub same-record : (a b : ℕ) (r s : Record) → has a r ≡ true → has b s ≡ true → recordWord r ≡ recordWord s → r ≡ s
-same-record = Forms.same-record editions recordWord has recordAt readTests writeTests sound
+same-record = Forms.same-record longForm sound

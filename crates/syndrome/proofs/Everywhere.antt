@@ -10,12 +10,11 @@ use Rattle.edition.specs.Judge.{judgeOf}
 use Rattle.edition.specs.declared.Refusal.the-variants.{ShortInstruction, NoEdition}
 use Rattle.edition.proofs.Masks.{mask-everywhere}
 use Rattle.form.proofs.Forms.{word-record}
-use Rattle.record.specs.Fields.{recordWord}
 use Rattle.record.specs.Split.{recordAt}
 use Rattle.record.specs.declared.kinds.Esr.{Esr}
-use Rattle.rule.specs.Has.{has}
 use Rattle.syndrome.specs.Inner.{makes}
-use Rattle.syndrome.specs.Tests.{upperClear, classKnown, wordIl, readTests, writeTests}
+use Rattle.syndrome.specs.Tests.{upperClear, classKnown, wordIl}
+use Rattle.syndrome.specs.Form.{longForm}
 use Rattle.syndrome.specs.Reading.{hasWord, readOf}
 use Rattle.syndrome.specs.declared.answer.Read.{Read}
 use Rattle.syndrome.proofs.Instance.{sound}
@@ -28,7 +27,7 @@ module _ (esr : Esr) (e : ℕ) (is : e < editions) where
   unfolding maskOf
   taken-everywhere all =
       read-exactly e esr (recordAt (esr .0)) .1
-      (word-record editions recordWord has recordAt readTests writeTests sound e (esr .0) (mask-everywhere editions (λ x. hasWord x (esr .0)) all e is))
+      (word-record longForm sound e (esr .0) (mask-everywhere editions (λ x. hasWord x (esr .0)) all e is))
 
   module _ (u : upperClear (esr .0) ≡ true) (c : classKnown (esr .0) ≡ true) where
     -- IL is refused alike

@@ -1,23 +1,25 @@
 -- The long form is a form: what `form` asks of it, once for all its laws.
 -- Assumes nothing.
-use mathlib.Core.Path.{_≡_, _∙_, ap}
+use mathlib.Core.Path.{_≡_, refl, _∙_, ap}
 use mathlib.Core.Bool.{true}
 use Prim.Native.Nat.{ℕ, _%_, _^_}
 use native.Mathlib.Nat.{div-eq-of-lt}
 use native.Mathlib.Omega.{arith}
 use borrow.Author.Tests.{eq-eqb}
 use Rattle.bits.specs.Decide.{AllPass}
-use Rattle.edition.specs.Feature.{editions}
+use Rattle.form.specs.Answer.{Answer, given, refused}
 use Rattle.form.proofs.Forms.{Sound}
+use Rattle.form.proofs.Shows.{Shows}
 use Rattle.record.specs.Fields.{recordWord}
-use Rattle.record.specs.Split.{recordAt}
 use Rattle.record.specs.declared.kinds.Record.{Record}
 use Rattle.record.proofs.RoundTrip.{record-back, word-fits, word-class, head-test}
 use Rattle.rule.specs.Il.{ilRule}
 use Rattle.rule.specs.Has.{has}
 use Rattle.rule.proofs.Lengths.{ignores-isv}
 use Rattle.rule.proofs.Having.{has-edition, has-own, has-il, has-fits}
-use Rattle.syndrome.specs.Tests.{upperClear, wordIl, readTests, writeTests}
+use Rattle.syndrome.specs.Form.{longForm}
+use Rattle.syndrome.specs.Answer.{asRead, readMeans, asWritten, writtenMeans}
+use Rattle.syndrome.specs.Tests.{upperClear, wordIl, readTests}
 
 module _ (e : ℕ) (r : Record) (h : has e r ≡ true) where
   upper : upperClear (recordWord r) ≡ true
@@ -29,7 +31,7 @@ module _ (e : ℕ) (r : Record) (h : has e r ≡ true) where
   reads : AllPass (readTests (recordWord r))
   reads = (upper, (word-class r (has-own e r h) (has-fits e r h), (long, tt)))
 
-pub sound : Sound editions recordWord has recordAt readTests writeTests
+pub sound : Sound longForm
 sound =
     record {
       known = has-edition;
@@ -39,3 +41,18 @@ sound =
       write-passes = λ e r h. (has-own e r h, (has-il e r h, tt));
       write-early = λ r. (λ six. omega (arith, six), (λ six. omega (arith, six), tt));
     }
+
+-- the answers of code show those of the calls
+pub read-shows : Shows asRead readMeans
+read-shows = record { same = by }
+  where
+    by : (a : Answer Record) → readMeans (asRead a) ≡ a
+    by (given r) = refl
+    by (refused refusal) = refl
+
+pub written-shows : Shows asWritten writtenMeans
+written-shows = record { same = by }
+  where
+    by : (a : Answer ℕ) → writtenMeans (asWritten a) ≡ a
+    by (given w) = refl
+    by (refused refusal) = refl

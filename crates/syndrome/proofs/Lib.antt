@@ -3,6 +3,5 @@ pub mod Steps
 pub mod Promises
 pub mod Demand2
 pub mod Demand3
-pub mod Carries
 pub mod Refusals
 pub mod Everywhere

@@ -1,48 +1,35 @@
--- The answer of each call carries its number, mask and count.
+-- The answer of each call carries its number, mask and count: the promises of crate form.
 -- Assumes nothing.
-use mathlib.Core.Path.{_≡_, refl, sym, subst}
+use mathlib.Core.Path.{_≡_, refl}
 use Prim.Native.Nat.{ℕ}
-use Rattle.edition.specs.Feature.{editions}
 use Rattle.edition.specs.Mask.{maskOf}
 use Rattle.form.specs.Answer.{given, refused}
-use Rattle.form.proofs.Forms.{own-reading, own-writing}
-use Rattle.form.proofs.Numbers.{Says, call-says}
-use Rattle.record.specs.Fields.{recordWord}
-use Rattle.record.specs.Split.{recordAt}
+use Rattle.form.proofs.Promises as Forms
 use Rattle.record.specs.declared.kinds.Esr.{Esr}
 use Rattle.record.specs.declared.kinds.Record.{Record}
-use Rattle.rule.specs.Has.{has}
-use Rattle.syndrome.specs.Numbers.{numberRead, maskRead, countRead, numberWritten, maskWritten, countWritten}
-use Rattle.syndrome.specs.Tests.{readTests, writeTests}
-use Rattle.syndrome.specs.Reading.{hasWord, asRead, readOf, Reading}
-use Rattle.syndrome.specs.Writing.{asWritten, writeOf, Writing}
+use Rattle.syndrome.specs.Form.{longForm}
+use Rattle.syndrome.specs.Answer.{asCarried, carriedMeans}
+use Rattle.syndrome.specs.Reading.{readOf, Reading}
+use Rattle.syndrome.specs.Writing.{writeOf, Writing}
+use Rattle.syndrome.specs.Carry.{rewrittenOf, Rewriting, carriedOf, Carrying}
 use Rattle.syndrome.specs.declared.answer.Read.{Read}
 use Rattle.syndrome.specs.declared.answer.Written.{Written}
-use Rattle.syndrome.proofs.Instance.{sound}
-
-pub read-says : Says asRead numberRead maskRead countRead
-read-says (given r) = (refl, refl, refl)
-read-says (refused f) = (refl, refl, refl)
-
-write-says : Says asWritten numberWritten maskWritten countWritten
-write-says (given w) = (refl, refl, refl)
-write-says (refused f) = (refl, refl, refl)
-
-reading : (e : ℕ) (esr : Esr) → Reading e esr (readOf e esr)
-unfolding readOf maskOf
-reading e esr =
-    let w = esr .0 in
-    let said = call-says asRead numberRead maskRead countRead read-says editions (λ x. hasWord x w) (readTests w) e (recordAt w) (own-reading editions recordWord has recordAt readTests writeTests sound w) in
-    record { answer = refl; number = said .0; mask = said .1; count = said .2 }
+use Rattle.syndrome.specs.declared.answer.Carried.{Carried}
+use Rattle.syndrome.proofs.Instance.{sound, read-shows, written-shows}
 
 pub reads : (e : ℕ) (esr : Esr) {a : Read} → a ≡ readOf e esr → Reading e esr a
-reads e esr same = subst (Reading e esr) (sym same) (reading e esr)
-
-writing : (e : ℕ) (r : Record) → Writing e r (writeOf e r)
-unfolding writeOf maskOf
-writing e r =
-    let said = call-says asWritten numberWritten maskWritten countWritten write-says editions (λ x. has x r) (writeTests r) e (recordWord r) (own-writing editions recordWord has recordAt readTests writeTests sound r) in
-    record { answer = refl; number = said .0; mask = said .1; count = said .2 }
+unfolding readOf maskOf
+reads e esr same = Forms.reading longForm sound read-shows e (esr .0) same
 
 pub writes : (e : ℕ) (r : Record) {a : Written} → a ≡ writeOf e r → Writing e r a
-writes e r same = subst (Writing e r) (sym same) (writing e r)
+unfolding writeOf maskOf
+writes e r same = Forms.writing longForm sound written-shows e r same
+
+pub rewrites : (e : ℕ) (esr : Esr) {a : Written} → a ≡ rewrittenOf e esr → Rewriting e esr a
+unfolding rewrittenOf maskOf
+rewrites e esr same = Forms.rewriting longForm sound written-shows e (esr .0) same
+
+pub carries : (writer reader : ℕ) (r : Record) {c : Carried} → c ≡ carriedOf writer reader r → Carrying writer reader r c
+unfolding carriedOf maskOf
+carries writer reader r same =
+    Forms.carrying longForm sound writer reader r Carried.Unwritten asCarried carriedMeans (λ refusal. refl) (λ a. read-shows .same a) same

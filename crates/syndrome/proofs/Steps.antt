@@ -1,6 +1,6 @@
 -- Reading and writing, one test after the other, as the code makes them.
 -- Assumes nothing.
-use mathlib.Core.Path.{_≡_, refl}
+use mathlib.Core.Path.{_≡_, ap}
 use mathlib.Core.Bool.{true, false, cond}
 use Prim.Native.Nat.{ℕ}
 use borrow.Author.Tests.{ltb-true}
@@ -9,12 +9,14 @@ use Rattle.bits.specs.Inner.{joinedFrom}
 use Rattle.edition.specs.Feature.{editions, isEdition}
 use Rattle.edition.specs.Mask.{maskOf}
 use Rattle.edition.specs.Judge.{judgeOf}
+use Rattle.edition.specs.declared.Refusal.{Refusal}
 use Rattle.edition.specs.declared.Refusal.the-variants.{UnknownEdition, UpperHalf, UnknownClass, ShortInstruction, NoEdition}
 use Rattle.edition.specs.declared.Verdict.{Verdict}
 use Rattle.edition.proofs.Judgement.{judge-taken}
 use Rattle.form.specs.Call.{callOf}
 use Rattle.form.specs.Form as Form
-use Rattle.form.proofs.Verdicts.{made-mask, call-verdict}
+use Rattle.form.proofs.Shows.{again-given, again-refused, carried-given, carried-refused}
+use Rattle.form.proofs.Verdicts.{made-mask, verdictOf, call-verdict}
 use Rattle.record.specs.Class.{headOf}
 use Rattle.record.specs.Fields.{fieldsOf, recordWord}
 use Rattle.record.specs.Split.{recordAt}
@@ -25,19 +27,22 @@ use Rattle.rule.specs.Has.{has, recordIl, editionsOf}
 use Rattle.rule.proofs.Having.{has-fits}
 use Rattle.syndrome.specs.Inner.{makes}
 use Rattle.syndrome.specs.Tests.{upperClear, classKnown, wordIl, readTests, writeTests}
-use Rattle.syndrome.specs.Reading.{hasWord, asRead, readOf}
-use Rattle.syndrome.specs.Writing.{asWritten, writeOf}
+use Rattle.syndrome.specs.Form.{longForm}
+use Rattle.syndrome.specs.Answer.{asRead, asWritten, asCarried}
+use Rattle.syndrome.specs.Reading.{hasWord, readOf}
+use Rattle.syndrome.specs.Writing.{writeOf}
+use Rattle.syndrome.specs.Carry.{rewrittenOf, carriedOf}
 use Rattle.syndrome.specs.declared.answer.Read.{Read}
 use Rattle.syndrome.specs.declared.answer.Written.{Written}
+use Rattle.syndrome.specs.declared.answer.Carried.{Carried}
+use Rattle.syndrome.proofs.Instance.{read-shows, written-shows}
 
 -- what each verdict makes of a record, and of a word
 abbrev pub readVerdict : Record → Verdict → Read
-readVerdict r Verdict.Taken = Read.Taken r
-readVerdict r (Verdict.Refused refusal) = Read.Refused refusal
+readVerdict r v = asRead (verdictOf r v)
 
 abbrev pub writeVerdict : ℕ → Verdict → Written
-writeVerdict w Verdict.Taken = Written.Word (record { 0 = w })
-writeVerdict w (Verdict.Refused refusal) = Written.Refused refusal
+writeVerdict w v = asWritten (verdictOf w v)
 
 module _ (e : ℕ) (esr : Esr) where
   pub read-unknown : isEdition e ≡ false → readOf e esr ≡ Read.Refused UnknownEdition
@@ -63,8 +68,7 @@ module _ (e : ℕ) (esr : Esr) where
             → readOf e esr ≡ readVerdict (recordAt (esr .0)) (judgeOf e (maskOf (λ x. makes x (recordAt (esr .0)) (esr .0))))
         unfolding readOf Form.hasWord maskOf
         read-judged l =
-            call-verdict asRead (readVerdict (recordAt (esr .0))) editions (λ x. hasWord x (esr .0)) (readTests (esr .0)) e (recordAt (esr .0)) refl
-            (λ f. refl) k (u, (c, (l, tt)))
+            ap asRead (call-verdict editions (λ x. hasWord x (esr .0)) (readTests (esr .0)) e (recordAt (esr .0)) k (u, (c, (l, tt))))
 
 module _ (e : ℕ) (r : Record) where
   pub write-unknown : isEdition e ≡ false → writeOf e r ≡ Written.Refused UnknownEdition
@@ -84,7 +88,7 @@ module _ (e : ℕ) (r : Record) where
       pub write-judged : recordIl r ≡ true → writeOf e r ≡ writeVerdict (recordWord r) (judgeOf e (editionsOf r))
       unfolding writeOf maskOf
       write-judged l =
-          call-verdict asWritten (writeVerdict (recordWord r)) editions (λ x. has x r) (writeTests r) e (recordWord r) refl (λ f. refl) k (o, (l, tt))
+          ap asWritten (call-verdict editions (λ x. has x r) (writeTests r) e (recordWord r) k (o, (l, tt)))
 
 -- the editions that have a record which makes the word, by the word that is put together
 pub makes-mask : (r : Record) (w : ℕ) → cond (eqb (joinedFrom 0 (fieldsOf r)) w) (editionsOf r) 0 ≡ maskOf (λ e. makes e r w)
@@ -95,3 +99,22 @@ makes-mask r w = made-mask editions (λ e. has e r) (joinedFrom 0 (fieldsOf r)) 
 pub joined-taken : (e : ℕ) (r : Record) → isEdition e ≡ true → judgeOf e (editionsOf r) ≡ Verdict.Taken → joinedFrom 0 (fieldsOf r) ≡ recordWord r
 unfolding maskOf
 joined-taken e r k t = joined-record r (has-fits e r (judge-taken editions (λ x. has x r) e (ltb-true e editions k) t))
+
+-- a word that is rewritten, by what reading answered, and a record that is carried, by what writing did
+module _ (e : ℕ) (esr : Esr) where
+  pub rewritten-taken : (r : Record) → readOf e esr ≡ Read.Taken r → rewrittenOf e esr ≡ Written.Word esr
+  unfolding readOf rewrittenOf
+  rewritten-taken = again-given read-shows asWritten (esr .0) (Form.readAs longForm e (esr .0))
+
+  pub rewritten-refused : (refusal : Refusal) → readOf e esr ≡ Read.Refused refusal → rewrittenOf e esr ≡ Written.Refused refusal
+  unfolding readOf rewrittenOf
+  rewritten-refused = again-refused read-shows asWritten (esr .0) (Form.readAs longForm e (esr .0))
+
+module _ (writer reader : ℕ) (r : Record) where
+  pub carried-word : (esr : Esr) → writeOf writer r ≡ Written.Word esr → carriedOf writer reader r ≡ asCarried (Form.readBack longForm reader r)
+  unfolding writeOf carriedOf
+  carried-word esr = carried-given written-shows Carried.Unwritten asCarried longForm reader r (Form.writeAs longForm writer r) (esr .0)
+
+  pub carried-unwritten : (refusal : Refusal) → writeOf writer r ≡ Written.Refused refusal → carriedOf writer reader r ≡ Carried.Unwritten refusal
+  unfolding writeOf carriedOf
+  carried-unwritten = carried-refused written-shows Carried.Unwritten asCarried longForm reader r (Form.writeAs longForm writer r)

@@ -1,33 +1,25 @@
 -- Reading a syndrome (01, 'Numbers a call may answer'): 1 to 6 in this order, or the record.
 use Prim.Native.Nat.{ℕ}
-use mathlib.Core.Path.{_≡_}
 use mathlib.Core.Bool.{Bool}
 use mathlib.Core.List.{List, [], _∷_}
 use Rattle.bits.specs.Decide.{Test, needs, decide}
 use Rattle.edition.specs.Feature.{editions, isEdition}
 use Rattle.edition.specs.Mask.{maskOf, countBelow}
-use Rattle.form.specs.Answer.{Answer, given, refused}
-use Rattle.form.specs.Call.{someHas, sixOnly}
+use Rattle.form.specs.Call.{someHas}
 use Rattle.form.specs.Form as Form
-use Rattle.record.specs.Fields.{recordWord}
-use Rattle.record.specs.Split.{recordAt}
+use Rattle.form.specs.Promise.{Promise}
 use Rattle.record.specs.declared.kinds.Esr.{Esr}
-use Rattle.record.specs.declared.kinds.Record.{Record}
-use Rattle.rule.specs.Has.{has}
-use Rattle.syndrome.specs.Numbers.{numberRead, maskRead, countRead}
-use Rattle.syndrome.specs.Tests.{upperClear, classKnown, wordIl, readTests}
+use Rattle.syndrome.specs.Tests.{upperClear, classKnown, wordIl}
+use Rattle.syndrome.specs.Form.{longForm}
+use Rattle.syndrome.specs.Answer.{asRead, readNumbers}
 use Rattle.syndrome.specs.declared.answer.Read.{Read}
 
 -- an edition has a word: it has a record that makes the word (`has-word-exactly`, proofs/Demand2.antt)
 abbrev pub hasWord : ℕ → ℕ → Bool
-hasWord e w = Form.hasWord recordWord has recordAt e w
-
-abbrev pub asRead : Answer Record → Read
-asRead (given r) = Read.Taken r
-asRead (refused refusal) = Read.Refused refusal
+hasWord e w = Form.hasWord longForm e w
 
 unfoldable pub readOf : ℕ → Esr → Read
-readOf e esr = asRead (Form.readAs editions recordWord has recordAt readTests e (esr .0))
+readOf e esr = asRead (Form.readAs longForm e (esr .0))
 
 -- the tests, each with its number
 abbrev pub readList : ℕ → Esr → List (Test ℕ)
@@ -40,13 +32,8 @@ readList e esr =
     ∷ needs (hasWord e (esr .0)) 6
     ∷ []
 
--- the number: that of the first test that fails
-abbrev pub readNumber : ℕ → Esr → ℕ
-readNumber e esr = decide (readList e esr) 0
-
--- THE PROMISE of reading: the answer; its number; and with 6 alone the mask of the editions that have the word, and how many they are
-pub record Reading (e : ℕ) (esr : Esr) (a : Read) : Type 0 where
-  pub answer : a ≡ readOf e esr
-  pub number : numberRead a ≡ readNumber e esr
-  pub mask : maskRead a ≡ sixOnly (numberRead a) (maskOf (λ x. hasWord x (esr .0)))
-  pub count : countRead a ≡ sixOnly (numberRead a) (countBelow editions (λ x. hasWord x (esr .0)))
+-- THE PROMISE of reading: the answer; its number, that of the first test that fails; and with 6 alone the mask of the editions that have the word, and how
+-- many they are
+abbrev pub Reading : ℕ → Esr → Read → Type 0
+Reading e esr =
+    Promise readNumbers (readOf e esr) (decide (readList e esr) 0) (maskOf (λ x. hasWord x (esr .0))) (countBelow editions (λ x. hasWord x (esr .0)))

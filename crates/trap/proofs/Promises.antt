@@ -1,6 +1,6 @@
 -- The answers of `read` and `read_both` carry their numbers, masks and counts.
 -- Assumes nothing.
-use mathlib.Core.Path.{_≡_, refl, _∙_, sym, ap, subst}
+use mathlib.Core.Path.{_≡_, refl, _∙_, sym, ap}
 use mathlib.Core.Bool.{Bool, true, false}
 use mathlib.Core.List.{[], _∷_}
 use Prim.Native.Nat.{ℕ}
@@ -13,6 +13,7 @@ use Rattle.edition.specs.Judge.{refusalNumber}
 use Rattle.edition.specs.declared.Refusal.the-variants.{UnknownEdition, UpperHalf, UnknownClass, ShortInstruction, NoEdition, OtherEditions}
 use Rattle.form.specs.Call.{sixOnly, callTests}
 use Rattle.form.proofs.Numbers.{call-through}
+use Rattle.form.proofs.Promises.{kept}
 use Rattle.record.specs.Addresses.{addressesOf}
 use Rattle.record.specs.Split.{recordAt}
 use Rattle.record.specs.declared.kinds.Esr.{Esr}
@@ -20,7 +21,8 @@ use Rattle.record.specs.declared.kinds.Record.{Record}
 use Rattle.address.specs.declared.Far.{Far}
 use Rattle.address.specs.declared.Hpfar.{Hpfar}
 use Rattle.syndrome.specs.Tests.{readTests}
-use Rattle.syndrome.specs.Reading.{hasWord, asRead, readOf, Reading}
+use Rattle.syndrome.specs.Answer.{asRead}
+use Rattle.syndrome.specs.Reading.{hasWord, readOf, Reading}
 use Rattle.syndrome.specs.declared.answer.Read.{Read}
 use Rattle.syndrome.proofs.Promises.{reads}
 use Rattle.trap.specs.Numbers.{trapNumber, numberAnswer, maskAnswer, countAnswer, numberBoth, maskBoth, countBoth}
@@ -76,9 +78,7 @@ module _ (esr : Esr) where
         ∙ ap (decide (relabel refusalNumber (callTests editions (λ x. hasWord x (esr .0)) (readTests (esr .0)) e))) (record-number (recordAt (esr .0)))
 
     pub shows : {a : Answer} → a ≡ answerOf e esr far hpfar → TrapReading e esr far hpfar a
-    shows same =
-        subst (TrapReading e esr far hpfar) (sym same)
-        record { answer = refl; number = answer-number; mask = answer-names .0; count = answer-names .1 }
+    shows same = kept same record { answer = refl; number = answer-number; mask = answer-names .0; count = answer-names .1 }
 
 -- no refusal has number 0
 refused-number : (f : TrapRefusal) → trapNumber f ≡ 0 → ⊥
@@ -120,4 +120,4 @@ module _ (first second : ℕ) (esr : Esr) (far : Far) (hpfar : Hpfar) where
       }
 
   pub shows-both : {b : Both} → b ≡ bothOf first second esr far hpfar → BothReading first second esr far hpfar b
-  shows-both same = subst (BothReading first second esr far hpfar) (sym same) both
+  shows-both same = kept same both

@@ -1,7 +1,7 @@
 -- The whole trap: what is shown holds exactly the addresses that are known, a register that isn't known has no influence, two editions that both show a
 -- trap show the same one, and each refusal is given exactly.
 -- Assumes nothing.
-use mathlib.Core.Path.{_≡_, refl, _∙_, sym, ap, ap₂, subst}
+use mathlib.Core.Path.{_≡_, refl, _∙_, sym, ap, ap₂}
 use mathlib.Core.Bool.{Bool, true, false, cond, not, _||_, true≢false}
 use mathlib.Core.List.{[], _∷_}
 use mathlib.Core.Logic.{_↔_}
@@ -10,12 +10,12 @@ use lib.Dec.{lit≤}
 use Rattle.bits.specs.Field.{fieldOf}
 use Rattle.bits.specs.Decide.{needs, decide, FirstFails}
 use Rattle.bits.proofs.Arms.{absurd-answer}
-use Rattle.bits.proofs.Deciding.{decided-exactly, answer-is}
 use Rattle.edition.specs.Feature.{editions}
 use Rattle.edition.specs.Mask.{maskOf, countBelow}
 use Rattle.edition.specs.declared.Refusal.{Refusal}
 use Rattle.edition.specs.declared.Refusal.the-variants.{OtherEditions}
 use Rattle.form.proofs.Calls.{OthersHave}
+use Rattle.form.proofs.Promises.{first-exactly, number-is}
 use Rattle.record.specs.Addresses.{addressesOf}
 use Rattle.record.specs.declared.kinds.Addresses.{Addresses}
 use Rattle.record.specs.declared.kinds.Esr.{Esr}
@@ -151,15 +151,12 @@ module _ (e : ℕ) (esr : Esr) (far : Far) (hpfar : Hpfar) where
 
   -- each number exactly, 0 to 8
   pub trap-refused-exactly : (k : ℕ) → (numberAnswer (answerOf e esr far hpfar) ≡ k) ↔ FirstFails k (trapList e esr far hpfar)
-  trap-refused-exactly k =
-      let law = decided-exactly (trapList e esr far hpfar) tt k in
-      (λ t. law .0 (sym (shows esr e far hpfar refl .number) ∙ t), λ f. shows esr e far hpfar refl .number ∙ law .1 f)
+  trap-refused-exactly = first-exactly (trapList e esr far hpfar) tt (shows esr e far hpfar refl)
 
   pub trap-numbers : numberAnswer (answerOf e esr far hpfar) ≤ 8
   trap-numbers =
-      subst (λ (k : ℕ). k ≤ 8) (sym (shows esr e far hpfar refl .number))
-      (answer-is (λ k. k ≤ 8) (trapList e esr far hpfar) 0
-      (lit≤ tt, (lit≤ tt, (lit≤ tt, (lit≤ tt, (lit≤ tt, (lit≤ tt, (lit≤ tt, (lit≤ tt, tt)))))))) (lit≤ tt))
+      number-is (λ k. k ≤ 8) (trapList e esr far hpfar) (shows esr e far hpfar refl)
+      (lit≤ tt, (lit≤ tt, (lit≤ tt, (lit≤ tt, (lit≤ tt, (lit≤ tt, (lit≤ tt, (lit≤ tt, tt)))))))) (lit≤ tt)
 
 -- ---- registers that don't count
 

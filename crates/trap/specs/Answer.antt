@@ -1,12 +1,11 @@
 -- Reading a whole trap (01, 'Numbers a call may answer'): 1 to 6 as the syndrome reader gives them, then 7, then 8, or the trap.
 use Prim.Native.Nat.{ℕ}
-use mathlib.Core.Path.{_≡_}
 use mathlib.Core.Bool.{Bool}
 use mathlib.Core.List.{List, [], _∷_, _++_}
 use Rattle.bits.specs.Decide.{Test, needs, decide}
 use Rattle.edition.specs.Feature.{editions}
 use Rattle.edition.specs.Mask.{maskOf, countBelow}
-use Rattle.form.specs.Call.{sixOnly}
+use Rattle.form.specs.Promise.{Promise}
 use Rattle.iss.specs.Rule.{implies}
 use Rattle.record.specs.Addresses.{addressesOf}
 use Rattle.record.specs.Split.{recordAt}
@@ -19,7 +18,7 @@ use Rattle.address.specs.declared.Far.{Far}
 use Rattle.address.specs.declared.Hpfar.{Hpfar}
 use Rattle.syndrome.specs.Reading.{hasWord, readOf, readList}
 use Rattle.syndrome.specs.declared.answer.Read.{Read}
-use Rattle.trap.specs.Numbers.{numberAnswer, maskAnswer, countAnswer}
+use Rattle.trap.specs.Numbers.{answerNumbers}
 use Rattle.trap.specs.Trap.{trapOf}
 use Rattle.trap.specs.declared.TrapRefusal.{TrapRefusal}
 use Rattle.trap.specs.declared.Answer.{Answer}
@@ -54,9 +53,9 @@ trapList e esr far hpfar =
     readList e esr
     ++ (needs (hpfarRight e (addressesOf (recordAt (esr .0))) hpfar) 7 ∷ needs (farRight (addressesOf (recordAt (esr .0))) far) 8 ∷ [])
 
--- THE PROMISE of reading a trap: the answer; its number; and with 6 alone the mask of the editions that have the word, and how many they are
-pub record TrapReading (e : ℕ) (esr : Esr) (far : Far) (hpfar : Hpfar) (a : Answer) : Type 0 where
-  pub answer : a ≡ answerOf e esr far hpfar
-  pub number : numberAnswer a ≡ decide (trapList e esr far hpfar) 0
-  pub mask : maskAnswer a ≡ sixOnly (numberAnswer a) (maskOf (λ x. hasWord x (esr .0)))
-  pub count : countAnswer a ≡ sixOnly (numberAnswer a) (countBelow editions (λ x. hasWord x (esr .0)))
+-- THE PROMISE of reading a trap: the answer; its number, that of the first test that fails; and with 6 alone the mask of the editions that have the word, and
+-- how many they are
+abbrev pub TrapReading : ℕ → Esr → Far → Hpfar → Answer → Type 0
+TrapReading e esr far hpfar =
+    Promise answerNumbers (answerOf e esr far hpfar) (decide (trapList e esr far hpfar) 0) (maskOf (λ x. hasWord x (esr .0)))
+    (countBelow editions (λ x. hasWord x (esr .0)))

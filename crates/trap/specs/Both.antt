@@ -1,15 +1,14 @@
 -- Demand 3 for addresses: where both editions show a trap, the second trap is the first one again.
 use Prim.Native.Nat.{ℕ}
-use mathlib.Core.Path.{_≡_}
 use Rattle.bits.specs.Decide.{decide}
 use Rattle.edition.specs.Feature.{editions}
 use Rattle.edition.specs.Mask.{maskOf, countBelow}
-use Rattle.form.specs.Call.{sixOnly}
+use Rattle.form.specs.Promise.{Promise}
 use Rattle.record.specs.declared.kinds.Esr.{Esr}
 use Rattle.address.specs.declared.Far.{Far}
 use Rattle.address.specs.declared.Hpfar.{Hpfar}
 use Rattle.syndrome.specs.Reading.{hasWord}
-use Rattle.trap.specs.Numbers.{numberBoth, maskBoth, countBoth}
+use Rattle.trap.specs.Numbers.{bothNumbers}
 use Rattle.trap.specs.Answer.{answerOf, trapList}
 use Rattle.trap.specs.declared.Answer.{Answer}
 use Rattle.trap.specs.declared.Both.{Both}
@@ -23,8 +22,7 @@ unfoldable pub bothOf : ℕ → ℕ → Esr → Far → Hpfar → Both
 bothOf first second esr far hpfar = bothFrom (answerOf first esr far hpfar) (answerOf second esr far hpfar)
 
 -- the number: the first edition's tests, then the second's
-pub record BothReading (first second : ℕ) (esr : Esr) (far : Far) (hpfar : Hpfar) (b : Both) : Type 0 where
-  pub answer : b ≡ bothOf first second esr far hpfar
-  pub number : numberBoth b ≡ decide (trapList first esr far hpfar) (decide (trapList second esr far hpfar) 0)
-  pub mask : maskBoth b ≡ sixOnly (numberBoth b) (maskOf (λ x. hasWord x (esr .0)))
-  pub count : countBoth b ≡ sixOnly (numberBoth b) (countBelow editions (λ x. hasWord x (esr .0)))
+abbrev pub BothReading : ℕ → ℕ → Esr → Far → Hpfar → Both → Type 0
+BothReading first second esr far hpfar =
+    Promise bothNumbers (bothOf first second esr far hpfar) (decide (trapList first esr far hpfar) (decide (trapList second esr far hpfar) 0))
+    (maskOf (λ x. hasWord x (esr .0))) (countBelow editions (λ x. hasWord x (esr .0)))

@@ -1,6 +1,7 @@
 -- The paper's number, mask and number of ones of each answer (01, 'Numbers a call may answer'): 0, 0, 0 where a trap is shown, else the refusal's.
 use Prim.Native.Nat.{ℕ}
 use Rattle.edition.specs.Judge.{refusalNumber, refusalMask, refusalCount}
+use Rattle.form.specs.Promise.{Numbers}
 use Rattle.trap.specs.declared.TrapRefusal.{TrapRefusal}
 use Rattle.trap.specs.declared.Answer.{Answer}
 use Rattle.trap.specs.declared.Both.{Both}
@@ -32,6 +33,9 @@ abbrev pub countAnswer : Answer → ℕ
 countAnswer (Answer.Shown trap) = 0
 countAnswer (Answer.Refused refusal) = trapCount refusal
 
+abbrev pub answerNumbers : Numbers Answer
+answerNumbers = record { number = numberAnswer; mask = maskAnswer; count = countAnswer }
+
 abbrev pub numberBoth : Both → ℕ
 numberBoth (Both.Shown trap other) = 0
 numberBoth (Both.Refused refusal) = trapNumber refusal
@@ -43,3 +47,6 @@ maskBoth (Both.Refused refusal) = trapMask refusal
 abbrev pub countBoth : Both → ℕ
 countBoth (Both.Shown trap other) = 0
 countBoth (Both.Refused refusal) = trapCount refusal
+
+abbrev pub bothNumbers : Numbers Both
+bothNumbers = record { number = numberBoth; mask = maskBoth; count = countBoth }

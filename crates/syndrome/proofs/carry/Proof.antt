@@ -2,10 +2,10 @@
 -- Assumes nothing.
 use borrow.Author.Needs.{needs}
 use mathlib.Core.Path.{_∙_, sym, ap}
-use Rattle.syndrome.specs.Carry.{carriedFrom, carriedOf}
 use Rattle.syndrome.specs.declared.answer.Carried.{Carried}
 use Rattle.syndrome.proofs.Demand3.{read-back}
-use Rattle.syndrome.proofs.Carries.{carries}
+use Rattle.syndrome.proofs.Promises.{carries}
+use Rattle.syndrome.proofs.Steps.{carried-word, carried-unwritten}
 use Rattle.syndrome.proofs.carry.Statement.{statement}
 use Rattle.syndrome.proofs.carry.Tie as tie
 
@@ -22,21 +22,20 @@ enum-known-refusal : tie.Need-enum-known-refusal
 enum-known-refusal c = search needs
 
 returns : tie.Need-returns
-unfolding carriedOf
 returns c =
     let a = c .before .before .before .before .before .args in
     let told = c .before .before .esr .given in
     let put = sym (c .before .before .before .before .write .ensures .answer) ∙ told .1 in
     carries (a .writer) (a .reader) (a .r)
     (ap Carried.Read (c .read .ensures .answer ∙ read-back (a .writer) (a .reader) (told .0 .0) (a .r) put)
-    ∙ sym (ap (carriedFrom (a .reader) (a .r)) put))
+    ∙ sym (carried-word (a .writer) (a .reader) (a .r) (told .0 .0) put))
 
 returns-2 : tie.Need-returns-2
-unfolding carriedOf
 returns-2 c =
     let a = c .before .before .before .before .args in
+    let told = c .before .refusal .given in
     carries (a .writer) (a .reader) (a .r)
-    (sym (ap (carriedFrom (a .reader) (a .r)) (sym (c .before .before .before .write .ensures .answer) ∙ c .before .refusal .given .1)))
+    (sym (carried-unwritten (a .writer) (a .reader) (a .r) (told .0 .0) (sym (c .before .before .before .write .ensures .answer) ∙ told .1)))
 
 pub carry-spec : {M : Type 1} → statement M
 carry-spec =
