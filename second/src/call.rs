@@ -96,6 +96,43 @@ pub enum Call {
     },
 }
 
+/// A proved program that answers rows: its name, and the words of its calls.
+pub struct Checker {
+    pub name: &'static str,
+    calls: &'static [&'static str],
+}
+
+pub const WORDS: Checker = Checker {
+    name: "check_words",
+    calls: &[
+        "read", "write", "carry", "again", "trap", "both", "hread", "hwrite", "hcarry", "hagain",
+        "widen",
+    ],
+};
+
+pub const STATES: Checker = Checker {
+    name: "check_states",
+    calls: &["inject", "lent", "spsr", "finish", "finlent", "held"],
+};
+
+pub const A32: Checker = Checker { name: "check_a32", calls: &["decode", "encode", "access"] };
+
+pub const CHECKERS: [Checker; 3] = [WORDS, STATES, A32];
+
+impl Checker {
+    /// Whether a line begins with the word of one of its calls.
+    pub fn is_asked_by(&self, line: &[u8]) -> bool {
+        let word = line.split(|&byte| byte == b' ').next().unwrap_or_default();
+        self.calls.iter().any(|call| call.as_bytes() == word)
+    }
+
+    /// The answers to an input's lines. The last line may lack its newline.
+    pub fn answers(&self, input: &[u8]) -> Vec<u8> {
+        let call = |line| Call::parse(line).filter(|_| self.is_asked_by(line));
+        answers(&lines(input).map(call).collect::<Vec<_>>())
+    }
+}
+
 /// A row of numbers and truth values of any width.
 macro_rules! row {
     ($($number:expr),* $(,)?) => { vec![$(u64::from($number)),*] };
@@ -351,10 +388,8 @@ impl Catalogues {
     }
 }
 
-/// The answers to an input's lines, each with its newline. The last line may
-/// lack its own.
-pub fn answers(input: &[u8]) -> Vec<u8> {
-    let calls: Vec<Option<Call>> = lines(input).map(Call::parse).collect();
+/// The answers to calls, each with a newline. A line that asks none is no row.
+pub fn answers(calls: &[Option<Call>]) -> Vec<u8> {
     let catalogues = Catalogues::of(calls.iter().flatten());
     let answer = |call: &Option<Call>| match call {
         Some(call) => text(&call.answer(&catalogues)) + "\n",

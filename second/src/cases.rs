@@ -207,7 +207,8 @@ fn injected(case: InjectionCase) -> [Case; 2] {
 pub fn failures() -> Vec<String> {
     let cases = cases();
     let questions: String = cases.iter().map(|case| case.call.line() + "\n").collect();
-    let answers = answers(questions.as_bytes());
+    let calls: Vec<_> = lines(questions.as_bytes()).map(Call::parse).collect();
+    let answers = answers(&calls);
     let wrong = |(case, answer): (Case, &[u8])| {
         let answer = String::from_utf8_lossy(answer).into_owned();
         let expected = case.answer;

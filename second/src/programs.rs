@@ -2,7 +2,7 @@
 //! compared with what this program answers. No contract reaches what a program
 //! reads and writes.
 
-use crate::call;
+use crate::call::{self, A32, STATES, WORDS};
 use crate::catalogue::Catalogue;
 use crate::log;
 use crate::log_runs;
@@ -24,10 +24,12 @@ struct Program {
     inputs: fn() -> Vec<(String, Vec<u8>)>,
 }
 
-const PROGRAMS: [Program; 3] = [
+const PROGRAMS: [Program; 5] = [
     Program { name: "trapread", answers: trapread, inputs: trapread_inputs },
     Program { name: "logread", answers: logread, inputs: log_runs::inputs },
-    Program { name: "checker", answers: call::answers, inputs: checker_inputs },
+    Program { name: WORDS.name, answers: |input| WORDS.answers(input), inputs: words_inputs },
+    Program { name: STATES.name, answers: |input| STATES.answers(input), inputs: states_inputs },
+    Program { name: A32.name, answers: |input| A32.answers(input), inputs: a32_inputs },
 ];
 
 /// Runs the programs of a folder; true when all wrote what they must.
@@ -252,30 +254,55 @@ fn trapread_inputs() -> Vec<(String, Vec<u8>)> {
     inputs
 }
 
-fn checker_inputs() -> Vec<(String, Vec<u8>)> {
+/// Rows that end in every way, those of other programs, which are no rows of this one,
+/// and long inputs.
+fn row_inputs(
+    [first, second]: [&str; 2],
+    line: impl Fn(&mut Random) -> String,
+) -> Vec<(String, Vec<u8>)> {
+    let cut = &second[..second.rfind(' ').unwrap_or(0)];
     let texts = [
-        ("nothing", ""),
-        ("a newline", "\n"),
-        ("a last line without its newline", "read 0 92000005\nread 1 92000018"),
-        ("a last line that is no row", "read 0 92000005\nread 1"),
-        ("a last line of a space", "read 0 92000005\n "),
+        ("nothing", String::new()),
+        ("a newline", "\n".into()),
+        ("a last line without its newline", format!("{first}\n{second}")),
+        ("a last line that is no row", format!("{first}\n{cut}")),
+        ("a last line of a space", format!("{first}\n ")),
+        ("rows of every program", "read 0 92000005\nheld 13 d\ndecode e5910004\n".into()),
     ];
-    let mut inputs = named(&texts);
-    inputs.push((
-        "some hundred KiB".into(),
-        long_input(300_000, 4, |random| {
-            let word = 0x9200_0000 + random.below(0x100);
-            format!(
-                "trap {:x} {word:x} {:x} {:x}",
-                random.below(10),
-                random.word(),
-                random.below(1 << 40)
-            )
-        }),
-    ));
+    let mut inputs: Vec<(String, Vec<u8>)> =
+        texts.into_iter().map(|(name, text)| (name.into(), text.into_bytes())).collect();
+    inputs.push(("some hundred KiB".into(), long_input(300_000, 4, line)));
     inputs.push(("a line of some hundred KiB".into(), "read ".repeat(60_000).into_bytes()));
     inputs.push(("some hundred thousand newlines".into(), "\n".repeat(200_000).into_bytes()));
     inputs
+}
+
+fn words_inputs() -> Vec<(String, Vec<u8>)> {
+    row_inputs(["read 0 92000005", "read 1 92000018"], |random| {
+        let word = 0x9200_0000 + random.below(0x100);
+        format!(
+            "trap {:x} {word:x} {:x} {:x}",
+            random.below(10),
+            random.word(),
+            random.below(1 << 40)
+        )
+    })
+}
+
+fn states_inputs() -> Vec<(String, Vec<u8>)> {
+    row_inputs(["held 13 d", "spsr 0 0 0 10"], |random| {
+        let mut state: Vec<u64> = (0..45).map(|_| random.word().into()).collect();
+        state[32] = 0x10 + random.below(16);
+        state[43] &= 0xffff_ffe0;
+        state.extend([0; 3]);
+        format!("inject {:x} 0 0 0 0 {}", random.below(3), call::text(&state))
+    })
+}
+
+fn a32_inputs() -> Vec<(String, Vec<u8>)> {
+    row_inputs(["decode e5910004", "decode 0"], |random| {
+        format!("decode {:x}", 0xe400_0000 + random.below(0x400_0000))
+    })
 }
 
 fn named(texts: &[(&str, &str)]) -> Vec<(String, Vec<u8>)> {

@@ -1,5 +1,5 @@
-//! The stored questions and answers: the standard input of the program
-//! `checker` and what it must write.
+//! The stored questions and answers: the standard input of each program that
+//! answers rows, and what it must write.
 
 mod a32;
 mod aborts;
@@ -12,7 +12,7 @@ mod short;
 mod trap;
 mod write;
 
-use crate::call::{answers, Call};
+use crate::call::{Call, Checker, CHECKERS};
 use crate::cases;
 use crate::log;
 use std::fs;
@@ -21,12 +21,12 @@ use std::path::Path;
 
 /// One file with its lines.
 struct File {
-    name: &'static str,
+    name: String,
     bytes: Vec<u8>,
 }
 
 /// The questions to every call, those of the paper first.
-fn questions() -> Vec<u8> {
+fn questions() -> Vec<String> {
     let calls = cases::cases()
         .into_iter()
         .map(|case| case.call)
@@ -39,9 +39,14 @@ fn questions() -> Vec<u8> {
         .chain(a32::questions());
     let calls: Vec<Call> = calls.collect();
     let derived = derived(&calls);
-    let lines = calls.iter().chain(&derived).map(|call| call.line() + "\n");
-    let mut bytes = lines.collect::<String>().into_bytes();
-    bytes.extend(malformed::lines());
+    calls.iter().chain(&derived).map(Call::line).collect()
+}
+
+/// What a program is asked: its own of the questions, and then lines that are no row.
+fn asked(checker: &Checker, questions: &[String]) -> Vec<u8> {
+    let own = questions.iter().filter(|line| checker.is_asked_by(line.as_bytes()));
+    let mut bytes = own.map(|line| line.clone() + "\n").collect::<String>().into_bytes();
+    bytes.extend(malformed::lines(checker));
     bytes
 }
 
@@ -75,15 +80,21 @@ fn derived(calls: &[Call]) -> Vec<Call> {
     derived
 }
 
-/// Both files, or the cases of the paper that this program answers otherwise.
-fn files() -> Result<[File; 2], Vec<String>> {
+/// The files of every program, or the cases of the paper that this program answers
+/// otherwise.
+fn files() -> Result<Vec<File>, Vec<String>> {
     let failures = cases::failures();
     if !failures.is_empty() {
         return Err(failures);
     }
-    let stdin = questions();
-    let stdout = answers(&stdin);
-    Ok([File { name: "stdin", bytes: stdin }, File { name: "stdout", bytes: stdout }])
+    let questions = questions();
+    let files = CHECKERS.iter().flat_map(|checker| {
+        let stdin = asked(checker, &questions);
+        let stdout = checker.answers(&stdin);
+        [("stdin", stdin), ("stdout", stdout)]
+            .map(|(file, bytes)| File { name: format!("{}/{file}", checker.name), bytes })
+    });
+    Ok(files.collect())
 }
 
 /// Numbers below a bound by turns.
@@ -111,9 +122,6 @@ fn report_failures(failures: &[String]) -> bool {
     false
 }
 
-/// The folder of the program among the crates.
-const FOLDER: &str = "checker";
-
 /// Writes the files; true when all cases of the paper came out right.
 pub fn write(directory: &Path) -> io::Result<bool> {
     let files = match files() {
@@ -121,8 +129,8 @@ pub fn write(directory: &Path) -> io::Result<bool> {
         Err(failures) => return Ok(report_failures(&failures)),
     };
     for File { name, bytes } in files {
-        fs::write(directory.join(FOLDER).join(name), &bytes)?;
-        println!("{FOLDER}/{name}: {} lines, {} bytes", count_lines(&bytes), bytes.len());
+        fs::write(directory.join(&name), &bytes)?;
+        println!("{name}: {} lines, {} bytes", count_lines(&bytes), bytes.len());
     }
     for (name, bytes) in log::files() {
         fs::write(directory.join(name), &bytes)?;
@@ -140,10 +148,9 @@ pub fn check(directory: &Path) -> io::Result<bool> {
     println!("cases of the paper: same");
     let mut all_same = true;
     for File { name, bytes } in files {
-        let stored = fs::read(directory.join(FOLDER).join(name));
-        let same = stored.is_ok_and(|stored| stored == bytes);
+        let same = fs::read(directory.join(&name)).is_ok_and(|stored| stored == bytes);
         let verdict = if same { "same" } else { "DIFFERENT OR MISSING" };
-        println!("{FOLDER}/{name}: {} lines, {verdict}", count_lines(&bytes));
+        println!("{name}: {} lines, {verdict}", count_lines(&bytes));
         all_same &= same;
     }
     for (name, bytes) in log::files() {
@@ -196,15 +203,17 @@ mod tests {
             ("encode", 1000, "0 13"),
             ("access", 500, "0 9 13"),
         ];
-        let [stdin, stdout] = files().expect("the cases of the paper");
+        let files = files().expect("the cases of the paper");
         let mut given: BTreeMap<String, (usize, BTreeSet<String>)> = BTreeMap::new();
-        for (question, answer) in lines(&stdin.bytes).zip(lines(&stdout.bytes)) {
-            if answer == b"no row" {
-                continue;
+        for file in files.chunks(2) {
+            for (question, answer) in lines(&file[0].bytes).zip(lines(&file[1].bytes)) {
+                if answer == b"no row" {
+                    continue;
+                }
+                let (asked, answers) = given.entry(first_word(question)).or_default();
+                *asked += 1;
+                answers.insert(first_word(answer));
             }
-            let (asked, answers) = given.entry(first_word(question)).or_default();
-            *asked += 1;
-            answers.insert(first_word(answer));
         }
         assert_eq!(given.len(), expected.len());
         for (call, least, numbers) in expected {

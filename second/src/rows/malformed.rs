@@ -1,5 +1,7 @@
 //! Lines that are no row, beside the rows that they were made from.
 
+use crate::call::Checker;
+
 /// Rows of every call.
 fn rows() -> Vec<String> {
     let words: String = (1..=45).map(|number| format!(" {number:x}")).collect();
@@ -63,9 +65,9 @@ fn with_each_number(row: &str, value: &str) -> Vec<String> {
 /// a byte, for 32 bits and for 64 bits, empty, and no number; other words for
 /// the call; other spaces. Some of them are rows: a number above one bit need
 /// not be a flag. The last has no newline.
-pub fn lines() -> Vec<u8> {
+pub fn lines(checker: &Checker) -> Vec<u8> {
     let mut lines = Vec::new();
-    for row in rows() {
+    for row in rows().into_iter().filter(|row| checker.is_asked_by(row.as_bytes())) {
         lines.push(row.clone());
         lines.push(format!("{row} 0"));
         lines.push(row[..row.rfind(' ').unwrap_or(0)].into());
@@ -83,12 +85,21 @@ pub fn lines() -> Vec<u8> {
             lines.extend(with_each_number(&row, value));
         }
     }
-    lines.push(String::new());
-    lines.push("read".into());
-    lines.push("readreadread 0 0".into());
-    lines.push(format!("read 0 {}", "0".repeat(2000)));
-    lines.push(format!("read{}", " 0".repeat(2000)));
-    lines.push("r".repeat(2000));
-    lines.push("read 0 2000000".into());
+    if checker.is_asked_by(b"read") {
+        lines.extend(words_and_lengths());
+    }
     lines.join("\n").into_bytes()
+}
+
+/// Words and lines that are too short or too long.
+fn words_and_lengths() -> Vec<String> {
+    vec![
+        String::new(),
+        "read".into(),
+        "readreadread 0 0".into(),
+        format!("read 0 {}", "0".repeat(2000)),
+        format!("read{}", " 0".repeat(2000)),
+        "r".repeat(2000),
+        "read 0 2000000".into(),
+    ]
 }

@@ -1,0 +1,27 @@
+// `inject KIND FAULT LEVEL ADDRESS WRITE STATE`: guest::inject.
+use super::injection;
+use super::injection::Asked;
+use guest::Injected;
+use rows::Reply;
+use rows::Row;
+use rows::rest;
+use state_rows::is_state;
+use state_rows::state;
+use state_rows::with_state;
+
+pub fn shown(before: Row, done: Injected) -> Reply {
+    let answer = done.answer;
+    let after = done.state;
+    with_state(rows::one(guest::number(answer) as u64), before, after)
+}
+
+pub fn answer(row: Row) -> Reply {
+    let before = rest(row, 5);
+    if !is_state(before) {
+        return rows::no_row();
+    }
+    match injection::from_row(row) {
+        Asked::Injection(what) => shown(before, guest::inject(state(before), what)),
+        Asked::None => rows::no_row(),
+    }
+}

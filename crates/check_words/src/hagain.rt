@@ -1,0 +1,13 @@
+// `hagain EDITION WORD`: short::rewrite.
+use super::hwrite::shown;
+use rows::Reply;
+use rows::Row;
+use rows::word;
+use short_record::Hsr;
+
+pub fn answer(row: Row) -> Reply {
+    if !rows::shaped(row, b"ww") {
+        return rows::no_row();
+    }
+    shown(short::rewrite(word(row, 0), Hsr(word(row, 1))))
+}

@@ -1,0 +1,25 @@
+// `hcarry WRITER READER RECORD`: short::carry. After 0 for a record that is written comes the reader's answer.
+use super::hread;
+use super::refusal;
+use rows::Reply;
+use rows::Row;
+use rows::word;
+use short::Carried;
+use short_rows::Given;
+
+fn shown(answer: Carried) -> Reply {
+    match answer {
+        Carried::Read(answer) => rows::joined(rows::one(0), hread::shown(answer)),
+        Carried::Unwritten(refusal) => refusal::shown(refusal),
+    }
+}
+
+pub fn answer(row: Row) -> Reply {
+    if !rows::begins(row, b"ww") {
+        return rows::no_row();
+    }
+    match short_rows::from_row(rows::rest(row, 2)) {
+        Given::Record(r) => shown(short::carry(word(row, 0), word(row, 1), r)),
+        Given::None => rows::no_row(),
+    }
+}
