@@ -11,8 +11,8 @@ use lib.Dec.{eqb}
 use lib.ListN.{length, getD}
 use Rattle.address.specs.declared.Far.{Far}
 use Rattle.address.specs.declared.Hpfar.{Hpfar}
-use Rattle.log.specs.Section.{sizes, endOf, restAfter, countAfter}
-use Rattle.log.specs.Log.{byteIn, wordIn, pairIn, bodyAfter, entriesOf}
+use Rattle.log.specs.Section.{injectionSize, sizes, endOf, restAfter, countAfter}
+use Rattle.log.specs.Log.{byteIn, wordIn, pairIn, injectionIn, bodyAfter, entriesOf}
 use Rattle.log.specs.Answer.{numberOf, goneIn, readOf}
 use Rattle.log.specs.Look.{entryGiven}
 use Rattle.log.specs.declared.answer.Read.{Read}
@@ -73,7 +73,7 @@ module _ (s : List ℕ) where
   counted zero h = entries-count 1 byteIn (countAfter s 0) (bodyAfter s 0)
   counted (suc zero) h = entries-count 8 wordIn (countAfter s 1) (bodyAfter s 1)
   counted (suc (suc zero)) h = entries-count 16 pairIn (countAfter s 2) (bodyAfter s 2)
-  counted (suc (suc (suc zero))) h = entries-count 1 byteIn (countAfter s 3) (bodyAfter s 3)
+  counted (suc (suc (suc zero))) h = entries-count injectionSize injectionIn (countAfter s 3) (bodyAfter s 3)
   counted (suc (suc (suc (suc n)))) h = absurd (omega arith)
 
   -- the section that the reader finds has the count of what is shown

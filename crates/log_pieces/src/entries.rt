@@ -9,11 +9,11 @@ use log::Entry;
 use log::Section;
 
 // How many entries of a section are shown.
-pub fn count(log: &[u8], passed: u32) -> usize
+pub(crate) fn count(log: &[u8], passed: u32) -> usize
     requires { ⌜ passed < 4 ⌝ }
     ensures { λ n. ⌜ n ≡ countIn (shown (now (log .entry))) passed ⌝ }
 {
-    let answer = log::read(log);
+    let answer = log_reader::read_in(log);
     if log::number_of(answer) != 0 {
         return 0;
     }
@@ -26,7 +26,7 @@ pub fn count(log: &[u8], passed: u32) -> usize
 }
 
 // Entry i of a section.
-pub fn entry(log: &[u8], passed: u32, i: usize) -> Entry
+pub(crate) fn entry(log: &[u8], passed: u32, i: usize) -> Entry
     requires { ⌜ (passed < 4) × (i < countIn (shown (now log)) passed) ⌝ }
     ensures { λ e. ⌜ e ≡ entryGiven (shown (now (log .entry))) passed i ⌝ }
 {

@@ -70,7 +70,7 @@ pub fn piece(out: &mut [u8], at: usize, log: &[u8], seen: u32, i: usize) -> usiz
     ensures { λ end. ⌜ Appends (getD (piecesIn seen (now (log .entry))) i []) (now (out .entry)) at (now (out .exit)) end ⌝ }
 {
     if i == 0 {
-        return log_text::read_line(out, at, log::read(log));
+        return log_text::read_line(out, at, log_reader::read_in(log));
     }
     entry_piece(out, at, log, seen, i - 1)
 }

@@ -337,7 +337,7 @@ fn writes() -> Vec<Question> {
         };
         ask(&traps, 40);
         ask(&Lists { syndromes: vec![0; one], ..Lists::default() }, 40);
-        let addresses = one / 2;
+        let addresses = one.div_ceil(2);
         ask(&Lists { fars: vec![0; addresses], ..Lists::default() }, 40);
         ask(&Lists { hpfars: vec![0; addresses], ..Lists::default() }, 40);
     }

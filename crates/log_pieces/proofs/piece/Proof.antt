@@ -8,8 +8,8 @@ use Rattle.log_pieces.proofs.Placed.{first-piece, later-piece, same-tex
 use Rattle.log_pieces.proofs.piece.Statement.{statement}
 use Rattle.log_pieces.proofs.piece.Tie as tie
 
-read-requires : tie.Need-read-requires
-read-requires c κs = search needs
+read-in-requires : tie.Need-read-in-requires
+read-in-requires c κs = search needs
 
 read-line-requires : tie.Need-read-line-requires
 read-line-requires c κs = search needs
@@ -22,7 +22,7 @@ returns c =
     let read = c .before .before .before in
     let test = read .before .before in
     let a = test .before .before .before .args in
-    same-text (ap readText (read .read .ensures) ∙ first-piece (a .seen) (now (a .log)) (a .i) (test .if1 .taken)) (c .before .before .read-line .ensures)
+    same-text (ap readText (read .read-in .ensures .answer) ∙ first-piece (a .seen) (now (a .log)) (a .i) (test .if1 .taken)) (c .before .before .read-line .ensures)
 
 sub-entry-piece : tie.Need-sub-entry-piece
 sub-entry-piece c = search needs
@@ -43,7 +43,7 @@ pub piece-spec : {M : Type 1} → statement M
 piece-spec =
     tie.close
     (tie.spec
-    read-requires
+    read-in-requires
     read-line-requires
     same-length
     returns

@@ -9,8 +9,8 @@ use Rattle.log_pieces.proofs.Shown.{count-refused, count-whole, count-n
 use Rattle.log_pieces.proofs.entries.count.Statement.{statement}
 use Rattle.log_pieces.proofs.entries.count.Tie as tie
 
-read-requires : tie.Need-read-requires
-read-requires c κs = search needs
+read-in-requires : tie.Need-read-in-requires
+read-in-requires c κs = search needs
 
 number-of-requires : tie.Need-number-of-requires
 number-of-requires c κs = search needs
@@ -18,7 +18,7 @@ number-of-requires c κs = search needs
 returns : tie.Need-returns
 returns c =
     let a = c .before .before .before .before .args in
-    let number = c .before .number-of .ensures ∙ ap numberOf (c .before .before .read .ensures) in
+    let number = c .before .number-of .ensures ∙ ap numberOf (c .before .before .read-in .ensures .answer) in
     count-refused (now (a .log)) (a .passed) (λ z. c .if1 .taken (number ∙ z))
 
 look-in-requires : tie.Need-look-in-requires
@@ -35,7 +35,7 @@ returns-2 c =
     let look = c .before .before .before in
     let test = look .before in
     let start = test .before .before .before .before in
-    let number = test .before .number-of .ensures ∙ ap numberOf (test .before .before .read .ensures) in
+    let number = test .before .number-of .ensures ∙ ap numberOf (test .before .before .read-in .ensures .answer) in
     count-whole (now (start .args .log)) (start .args .passed) (start .pre) (sym number ∙ test .if1 .left)
     (ap (λ (l : Look). l .section) (sym (look .look-in .ensures)) ∙ c .before .section .given .1)
 
@@ -44,7 +44,7 @@ returns-3 c =
     let look = c .before .before in
     let test = look .before in
     let start = test .before .before .before .before in
-    let number = test .before .number-of .ensures ∙ ap numberOf (test .before .before .read .ensures) in
+    let number = test .before .number-of .ensures ∙ ap numberOf (test .before .before .read-in .ensures .answer) in
     count-none (now (start .args .log)) (start .args .passed) (start .pre) (sym number ∙ test .if1 .left)
     (ap (λ (l : Look). l .section) (sym (look .look-in .ensures)) ∙ c .enum-told .given .1)
 
@@ -52,7 +52,7 @@ pub count-spec : {M : Type 1} → statement M
 count-spec =
     tie.close
     (tie.spec
-    read-requires
+    read-in-requires
     number-of-requires
     returns
     look-in-requires
