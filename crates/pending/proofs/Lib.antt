@@ -1,0 +1,7 @@
+pub mod Round
+pub mod Lists
+pub mod Queues
+pub mod Choices
+pub mod Steps
+pub mod Runs
+pub mod Bound
