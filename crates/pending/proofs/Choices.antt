@@ -4,9 +4,12 @@ use mathlib.Core.Path.{_≡_, refl, ap, ap₂, _∙_}
 use mathlib.Core.Bool.{Bool, true, false, cond, not}
 use mathlib.Core.List.{List, [], _∷_}
 use Rattle.pending.specs.declared.Kind.{Kind}
+use Rattle.pending.specs.declared.Queue.{Queue}
 use Rattle.pending.specs.declared.Queue.the-variants.{Empty, One, Two, Three}
+use Rattle.pending.specs.declared.Choice.{Choice}
+use Rattle.pending.specs.declared.Choice.the-variants.{Nothing, Oldest}
 use Rattle.pending.specs.Plain.{Chosen, none, oldest, behind, chosen}
-use Rattle.pending.specs.Reading.{neighbour, listOf}
+use Rattle.pending.specs.Reading.{neighbour, listOf, choiceOf}
 use Rattle.pending.proofs.Round.{round}
 
 module _ (mask : Kind → Bool) where
@@ -56,3 +59,31 @@ module _ (mask : Kind → Bool) where
 
       rest : Chosen
       rest = openOr (neighbour a after) (listOf (Two a (not after))) (openOr (neighbour a (not after)) (listOf (Two a after)) none)
+
+  -- every queue has a choice that reads as the plain queue's
+  pick : Kind → Queue → Choice → Choice
+  pick k left otherwise = cond (mask k) otherwise (Oldest k left)
+
+  picked : (k : Kind) (left : Queue) (otherwise : Choice) → choiceOf (pick k left otherwise) ≡ openOr k (listOf left) (choiceOf otherwise)
+  unfolding pick
+  picked k left otherwise = by (mask k)
+    where
+      by : (b : Bool) → choiceOf (cond b otherwise (Oldest k left)) ≡ cond b (choiceOf otherwise) (oldest k (listOf left))
+      by true = refl
+      by false = refl
+
+  pub choice : (q : Queue) → (c : Choice) × (choiceOf c ≡ chosen mask (listOf q))
+  choice Empty = (Nothing, refl)
+  choice (One a) = (pick a Empty Nothing, one-chosen a (picked a Empty Nothing))
+  choice (Two a after) =
+      let b = neighbour a after in
+      let second = pick b (One a) Nothing in
+      (pick a (One b) second, two-chosen a after refl (picked b (One a) Nothing) (picked a (One b) second))
+  choice (Three a after) =
+      let b = neighbour a after in
+      let c = neighbour a (not after) in
+      let third = pick c (Two a after) Nothing in
+      let second = pick b (Two a (not after)) third in (
+        pick a (Two b after) second,
+        three-chosen a after refl refl (picked c (Two a after) Nothing) (picked b (Two a (not after)) third) (picked a (Two b after) second),
+      )

@@ -4,4 +4,5 @@ pub mod Queues
 pub mod Choices
 pub mod Steps
 pub mod Runs
+pub mod Reached
 pub mod Bound

@@ -95,7 +95,7 @@ abbrev pub AllMasked : (Kind → Bool) → List Kind → Type 0
 AllMasked mask [] = Unit {0}
 AllMasked mask (k ∷ l) = (mask k ≡ true) × AllMasked mask l
 
--- THE OLDEST WHOSE MASK BIT IS 0: it waits behind none but masked ones, and those before and behind it are left; there is none exactly where all are masked
+-- THE OLDEST WHOSE MASK BIT IS 0 waits behind none whose mask bit isn't 1, and leaves those before and behind it; or every mask bit is 1
 pub data Choosing (mask : Kind → Bool) (l : List Kind) : Chosen → Type 0 where
   none-open : AllMasked mask l → Choosing mask l none
   first-open : (before : List Kind) (k : Kind) (rest : List Kind) → l ≡ (before ++ (k ∷ rest)) → AllMasked mask before → mask k ≡ false
@@ -113,8 +113,8 @@ choosing mask (j ∷ l) = by (mask j) refl (choosing mask l)
     by true m later = more (chosen mask l) m later
     by false m later = first-open [] j l refl tt m
 
--- What a choice does to one that waits: none is chosen only where its mask bit is 1; else it is chosen itself, or it still waits, and where its mask
--- bit is 0 one fewer waits before it.
+-- What a choice does to one that waits: none is chosen only where its mask bit is 1; else it is chosen itself, or it still waits, and where
+-- its mask bit is 0 one fewer waits before it.
 abbrev pub Passed : Kind → (Kind → Bool) → List Kind → Chosen → Type 0
 Passed k mask l none = mask k ≡ true
 Passed k mask l (oldest j left) = (j ≡ k) ⊎ ((waits k left ≡ true) × (digit (not (mask k)) + older k left ≤ older k l))
@@ -132,27 +132,31 @@ passed k mask (j ∷ l) w = by (same k j) refl w (mask j) refl (passed k mask l)
     more none p f = p
     more (oldest i left) (inl e) f = inl e
     more (oldest i left) (inr p) f =
-        inr
-        (ap (λ (b : Bool). b || waits k left) f ∙ p .0,
-        subst (λ (b : Bool). digit (not (mask k)) + cond b 0 (suc (older k left)) ≤ cond b 0 (suc (older k l))) (sym f)
-        (let h = p .1 in omega arith))
+        inr (
+          ap (λ (b : Bool). b || waits k left) f ∙ p .0,
+          subst (λ (b : Bool). digit (not (mask k)) + cond b 0 (suc (older k left)) ≤ cond b 0 (suc (older k l))) (sym f)
+              (let h = p .1 in omega arith),
+        )
 
     -- the first itself, which is masked
     stays : (c : Chosen) → same k j ≡ true → mask k ≡ true → Passed k mask (j ∷ l) (behind j c)
     stays none t m = m
     stays (oldest i left) t m =
-        inr
-        (ap (λ (b : Bool). b || waits k left) t,
-        subst (λ (b : Bool). digit (not b) + older k (j ∷ left) ≤ older k (j ∷ l)) (sym m)
-        (subst (λ (b : Bool). 0 + cond b 0 (suc (older k left)) ≤ cond b 0 (suc (older k l))) (sym t) (omega arith)))
+        inr (
+          ap (λ (b : Bool). b || waits k left) t,
+          subst (λ (b : Bool). digit (not b) + older k (j ∷ left) ≤ older k (j ∷ l)) (sym m)
+              (subst (λ (b : Bool). 0 + cond b 0 (suc (older k left)) ≤ cond b 0 (suc (older k l))) (sym t) (omega arith)),
+        )
 
-    by : (b : Bool) → same k j ≡ b → (b || waits k l) ≡ true → (m : Bool) → mask j ≡ m → (waits k l ≡ true → Passed k mask l (chosen mask l))
+    by : (b : Bool) → same k j ≡ b → (b || waits k l) ≡ true → (m : Bool) → mask j ≡ m
+        → (waits k l ≡ true → Passed k mask l (chosen mask l))
         → Passed k mask (j ∷ l) (cond m (behind j (chosen mask l)) (oldest j l))
     by true t w true m later = stays (chosen mask l) t (ap mask (same-kind k j t) ∙ m)
     by true t w false m later = inl (sym (same-kind k j t))
     by false f w true m later = more (chosen mask l) (later w) f
     by false f w false m later =
-        inr
-        (w,
-        subst (λ (b : Bool). digit (not (mask k)) + older k l ≤ cond b 0 (suc (older k l))) (sym f)
-        (let h = digit-small (not (mask k)) in omega arith))
+        inr (
+          w,
+          subst (λ (b : Bool). digit (not (mask k)) + older k l ≤ cond b 0 (suc (older k l))) (sym f)
+              (let h = digit-small (not (mask k)) in omega arith),
+        )

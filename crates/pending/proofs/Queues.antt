@@ -1,11 +1,12 @@
 -- The values of `Queue` are exactly the lists of kinds without repeats: sixteen.
 -- Assumes nothing.
 use mathlib.Core.Path.{_≡_, refl, sym, ap, _∙_}
-use mathlib.Core.Bool.{Bool, true, false, not, _&&_, _||_}
+use mathlib.Core.Bool.{Bool, true, false, not, _&&_, _||_, or-false}
 use mathlib.Core.List.{List, [], _∷_}
 use Prim.Native.Nat.{_≤_}
 use native.Mathlib.Omega.{arith}
 use lib.ListN.{length}
+use Rattle.bits.proofs.Booleans.{either-false}
 use Rattle.pending.specs.declared.Kind.{Kind}
 use Rattle.pending.specs.declared.Kind.the-variants.{Abort, Fiq, Irq}
 use Rattle.pending.specs.declared.Queue.{Queue}
@@ -75,14 +76,13 @@ again k q w = sym (raise-keeps k (listOf q) w)
 pub again-one : (k a : Kind) → same k a ≡ true → listOf (One a) ≡ raised k (listOf (One a))
 again-one k a t = again k (One a) (ap (λ (b : Bool). b || false) t)
 
-pub again-oldest : (k a : Kind) (after : Bool) → same k a ≡ true → listOf (Two a after) ≡ raised k (listOf (Two a after))
-again-oldest k a after t = again k (Two a after) (ap (λ (b : Bool). b || (same k (neighbour a after) || false)) t)
+-- whether one waits in a list of two
+in-two : (k a : Kind) (after : Bool) → waits k (listOf (Two a after)) ≡ (same k a || same k (neighbour a after))
+in-two k a after = ap (λ (b : Bool). same k a || b) (or-false (same k (neighbour a after)))
 
-pub again-second : (k a : Kind) (after : Bool) → same k a ≡ false → same k (neighbour a after) ≡ true
+pub again-two : (k a : Kind) (after : Bool) → (same k a || same k (neighbour a after)) ≡ true
     → listOf (Two a after) ≡ raised k (listOf (Two a after))
-again-second k a after f t =
-    again k (Two a after)
-    (ap (λ (b : Bool). b || (same k (neighbour a after) || false)) f ∙ ap (λ (b : Bool). b || false) t)
+again-two k a after t = again k (Two a after) (in-two k a after ∙ t)
 
 pub again-three : (k a : Kind) (after : Bool) → listOf (Three a after) ≡ raised k (listOf (Three a after))
 again-three k a after = again k (Three a after) (all-wait k a after)
@@ -96,13 +96,13 @@ pub second-raised : (k a : Kind) → same k a ≡ false → listOf (Two a (same 
 second-raised k a f =
     ap (λ (b : Kind). a ∷ b ∷ []) (second k a f) ∙ sym (raise-adds k (a ∷ []) (ap (λ (b : Bool). b || false) f))
 
-pub third-raised : (k a : Kind) (after : Bool) → same k a ≡ false → same k (neighbour a after) ≡ false
+pub third-raised : (k a : Kind) (after : Bool) → (same k a || same k (neighbour a after)) ≡ false
     → listOf (Three a after) ≡ raised k (listOf (Two a after))
-third-raised k a after f g =
-    ap (λ (c : Kind). a ∷ neighbour a after ∷ c ∷ []) (third k a after f g)
-    ∙ sym
-    (raise-adds k (a ∷ neighbour a after ∷ [])
-    (ap (λ (b : Bool). b || (same k (neighbour a after) || false)) f ∙ ap (λ (b : Bool). b || false) g))
+third-raised k a after f =
+    let g = either-false (same k a) (same k (neighbour a after)) f in
+    let h : same k (neighbour a after) ≡ false = ap (λ (b : Bool). b || same k (neighbour a after)) (sym g) ∙ f in
+    ap (λ (c : Kind). a ∷ neighbour a after ∷ c ∷ []) (third k a after g h)
+    ∙ sym (raise-adds k (a ∷ neighbour a after ∷ []) (in-two k a after ∙ f))
 
 pub raise-queue : (q : Queue) (k : Kind) → (r : Queue) × (listOf r ≡ raised k (listOf q))
 raise-queue Empty k = (One k, first-raised k)
@@ -111,10 +111,9 @@ raise-queue (One a) k = by (same k a) refl
     by : (b : Bool) → same k a ≡ b → (r : Queue) × (listOf r ≡ raised k (listOf (One a)))
     by true t = (One a, again-one k a t)
     by false f = (Two a (same k (neighbour a true)), second-raised k a f)
-raise-queue (Two a after) k = by (same k a) refl (same k (neighbour a after)) refl
+raise-queue (Two a after) k = by (same k a || same k (neighbour a after)) refl
   where
-    by : (b : Bool) → same k a ≡ b → (c : Bool) → same k (neighbour a after) ≡ c → (r : Queue) × (listOf r ≡ raised k (listOf (Two a after)))
-    by true t c u = (Two a after, again-oldest k a after t)
-    by false f true t = (Two a after, again-second k a after f t)
-    by false f false g = (Three a after, third-raised k a after f g)
+    by : (b : Bool) → (same k a || same k (neighbour a after)) ≡ b → (r : Queue) × (listOf r ≡ raised k (listOf (Two a after)))
+    by true t = (Two a after, again-two k a after t)
+    by false f = (Three a after, third-raised k a after f)
 raise-queue (Three a after) k = (Three a after, again-three k a after)

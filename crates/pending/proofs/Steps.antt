@@ -16,13 +16,18 @@ use Rattle.pending.specs.Run.{counts}
 use Rattle.pending.proofs.Lists.{older, AllMasked, Choosing, none-open, first-open, choosing, Passed, passed}
 
 module _ {S : Type 0} (d : Delivery S) where
-  by-taken : (l : List Kind) (s : S) {b : Bool} → taken d s ≡ b
-      → stepOf d l s ≡ cond b (deliverTo d l s (chosen (d .mask s) l)) (stepTo (refused (d .refusal s)) l s)
+  -- a step by its two tests: whether it is taken, and what is chosen
+  pub step-refused : (l : List Kind) (s : S) → taken d s ≡ false → stepOf d l s ≡ stepTo (refused (d .refusal s)) l s
   unfolding stepOf
-  by-taken l s = ap (λ (b : Bool). cond b (deliverTo d l s (chosen (d .mask s) l)) (stepTo (refused (d .refusal s)) l s))
+  step-refused l s = ap (λ (b : Bool). cond b (deliverTo d l s (chosen (d .mask s) l)) (stepTo (refused (d .refusal s)) l s))
 
-  -- HOW A STEP ENDS: refused, and nothing moves; taken with every mask bit of those that wait 1, and nothing moves; or taken, with the oldest whose mask
-  -- bit is 0 injected, named and gone from the queue
+  pub step-taken : (l : List Kind) (s : S) {c : Chosen} → taken d s ≡ true → chosen (d .mask s) l ≡ c → stepOf d l s ≡ deliverTo d l s c
+  unfolding stepOf
+  step-taken l s t e =
+      ap (λ (b : Bool). cond b (deliverTo d l s (chosen (d .mask s) l)) (stepTo (refused (d .refusal s)) l s)) t ∙ ap (deliverTo d l s) e
+
+  -- HOW A STEP ENDS: refused, and nothing moves; taken, with every mask bit of those that wait 1, and nothing moves; or taken, with the
+  -- oldest whose mask bit is 0 injected, named and gone from the queue
   pub data Ending (l : List Kind) (s : S) : Type 0 where
     refused-step : taken d s ≡ false → stepOf d l s ≡ stepTo (refused (d .refusal s)) l s → Ending l s
     none-open-step : taken d s ≡ true → AllMasked (d .mask s) l → stepOf d l s ≡ stepTo nothing l s → Ending l s
@@ -34,13 +39,13 @@ module _ {S : Type 0} (d : Delivery S) where
   ending l s = by (taken d s) refl
     where
       open-or-not : taken d s ≡ true → (c : Chosen) → chosen (d .mask s) l ≡ c → Choosing (d .mask s) l c → Ending l s
-      open-or-not t c e (none-open all) = none-open-step t all (by-taken l s t ∙ ap (deliverTo d l s) e)
+      open-or-not t c e (none-open all) = none-open-step t all (step-taken l s t e)
       open-or-not t c e (first-open before k rest same all unmasked) =
-          oldest-open-step t before k rest same all unmasked (by-taken l s t ∙ ap (deliverTo d l s) e)
+          oldest-open-step t before k rest same all unmasked (step-taken l s t e)
 
       by : (b : Bool) → taken d s ≡ b → Ending l s
       by true t = open-or-not t (chosen (d .mask s) l) refl (choosing (d .mask s) l)
-      by false f = refused-step f (by-taken l s f)
+      by false f = refused-step f (step-refused l s f)
 
   -- the answer's number is the state's refusal, whatever waits
   pub step-number : (l : List Kind) (s : S) → answerNumber (stepOf d l s .answer) ≡ d .refusal s
@@ -55,7 +60,8 @@ module _ {S : Type 0} (d : Delivery S) where
       by (oldest-open-step t before k rest same all unmasked e) = numbered _ e ∙ sym (eqb-true (d .refusal s) 0 t)
 
   -- NOTHING DELIVERED leaves the queue and the state as they came
-  pub unmoved : (l : List Kind) (s : S) → ((k : Kind) → stepOf d l s .answer ≡ delivered k → ⊥) → (stepOf d l s .waiting ≡ l) × (stepOf d l s .state ≡ s)
+  pub unmoved : (l : List Kind) (s : S) → ((k : Kind) → stepOf d l s .answer ≡ delivered k → ⊥)
+      → (stepOf d l s .waiting ≡ l) × (stepOf d l s .state ≡ s)
   unmoved l s not-delivered = by (ending l s)
     where
       by : Ending l s → (stepOf d l s .waiting ≡ l) × (stepOf d l s .state ≡ s)

@@ -34,25 +34,25 @@ module _ {S : Type 0} (d : Delivery S) where
   answered l (raise k) = raising k
   answered l (deliver s) = delivering s (stepOf d l s .answer) (stepOf d l s .state)
 
-  abbrev pub left : List Kind → Call S → List Kind
-  left l (raise k) = raised k l
-  left l (deliver s) = stepOf d l s .waiting
+  abbrev pub leftBy : List Kind → Call S → List Kind
+  leftBy l (raise k) = raised k l
+  leftBy l (deliver s) = stepOf d l s .waiting
 
   abbrev pub runFrom : List Kind → List (Call S) → List (Made S)
   runFrom l [] = []
-  runFrom l (c ∷ calls) = answered l c ∷ runFrom (left l c) calls
+  runFrom l (c ∷ calls) = answered l c ∷ runFrom (leftBy l c) calls
 
   abbrev pub lastFrom : List Kind → List (Call S) → List Kind
   lastFrom l [] = l
-  lastFrom l (c ∷ calls) = lastFrom (left l c) calls
+  lastFrom l (c ∷ calls) = lastFrom (leftBy l c) calls
 
   -- what the code promises of a call that was given the queue q and left the queue r
   abbrev pub Promised : Queue → Made S → Queue → Type 0
   Promised q (raising k) r = listOf r ≡ raised k (listOf q)
   Promised q (delivering s answer after) r = stepTo answer (listOf r) after ≡ stepOf d (listOf q) s
 
-  -- A RUN OF THE CODE: calls made one after the other, the first given the queue q and each other one the queue that the call before it left, each as
-  -- promised; and the queue that the last one left
+  -- A RUN OF THE CODE: calls made one after the other, each as promised, the first given the queue q and every other one the queue that the
+  -- call before it left; and the queue that the last one left
   abbrev pub Run : Queue → List (Made S) → Queue → Type 0
   Run q [] last = q ≡ last
   Run q (m ∷ made) last = (r : Queue) × Promised q m r × Run r made last

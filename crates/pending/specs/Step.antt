@@ -6,11 +6,13 @@ use lib.Dec.{eqb}
 use Rattle.pending.specs.declared.Kind.{Kind}
 use Rattle.pending.specs.Plain.{Chosen, none, oldest, chosen}
 
--- What a step asks of a state, and what a delivery makes of it: the number of the state's refusal, 9 or 10, and 0 where the step is taken; a kind's
--- mask bit; and the state after a kind was injected.
+-- what a step asks of a state, and what a delivery makes of it
 pub record Delivery (S : Type 0) : Type 0 where
+  -- 9 or 10, the number of the first test that the state fails; 0 where it passes both
   pub refusal : S → ℕ
+  -- a kind's mask bit
   pub mask : S → Kind → Bool
+  -- the state after a kind was injected
   pub injected : S → Kind → S
 
 -- what a step answers: a refusal's number; or 0, with nothing delivered or with the name of what was

@@ -64,27 +64,9 @@ fn neighbour(kind: Kind, after: bool) -> Kind
     ensures { λ r. ⌜ r ≡ neighbour kind after ⌝ }
 {
     match kind {
-        Kind::Abort => {
-            if after {
-                Kind::Fiq
-            } else {
-                Kind::Irq
-            }
-        }
-        Kind::Fiq => {
-            if after {
-                Kind::Irq
-            } else {
-                Kind::Abort
-            }
-        }
-        Kind::Irq => {
-            if after {
-                Kind::Abort
-            } else {
-                Kind::Fiq
-            }
-        }
+        Kind::Abort => { if after { Kind::Fiq } else { Kind::Irq } }
+        Kind::Fiq => { if after { Kind::Irq } else { Kind::Abort } }
+        Kind::Irq => { if after { Kind::Abort } else { Kind::Fiq } }
     }
 }
 
@@ -103,9 +85,7 @@ pub fn raise(queue: Queue, kind: Kind) -> Queue
         }
         Queue::Two(a, after) => {
             let b = neighbour(a, after);
-            if same(kind, a) {
-                Queue::Two(a, after)
-            } else if same(kind, b) {
+            if same(kind, a) | same(kind, b) {
                 Queue::Two(a, after)
             } else {
                 Queue::Three(a, after)

@@ -67,7 +67,9 @@ returns-3 c =
     let neighbours = c .before .before in
     let known = neighbours .before .before .queue2 .given in
     let mask = maskIn (neighbours .before .before .before .before .args .masks) in
-    at mask (two-chosen mask (known .0 .0) (known .0 .1 .0) (neighbours .neighbour .ensures) (c .before .open-or2 .ensures) (c .open-or3 .ensures)) (known .1)
+    at mask
+    (two-chosen mask (known .0 .0) (known .0 .1 .0) (neighbours .neighbour .ensures) (c .before .open-or2 .ensures) (c .open-or3 .ensures))
+    (known .1)
 
 returns-4 : tie.Need-returns-4
 returns-4 c =

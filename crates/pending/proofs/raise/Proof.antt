@@ -1,6 +1,6 @@
 -- `pending::raise` meets its contract: each arm's list is the plain queue's.
-use mathlib.Core.Path.{_≡_, sym, ap, _∙_}
-use mathlib.Core.Bool.{Bool}
+use mathlib.Core.Path.{_≡_, sym, ap, ap₂, _∙_}
+use mathlib.Core.Bool.{Bool, _||_}
 use mathlib.Core.List.{List}
 use borrow.Author.Needs.{needs}
 use Rattle.bits.proofs.Arms.{at-arm}
@@ -9,16 +9,17 @@ use Rattle.pending.specs.declared.Queue.{Queue}
 use Rattle.pending.specs.declared.Queue.the-variants.{Two}
 use Rattle.pending.specs.Plain.{same, raised}
 use Rattle.pending.specs.Reading.{neighbour, listOf}
-use Rattle.pending.proofs.Queues.{again-one, again-oldest, again-second, again-three, first-raised, second-raised, third-raised}
+use Rattle.pending.proofs.Queues.{again-one, again-two, again-three, first-raised, second-raised, third-raised}
 use Rattle.pending.proofs.raise.Statement.{statement}
 use Rattle.pending.proofs.raise.Tie as tie
 
 at : (k : Kind) {whole part : Queue} {l : List Kind} → l ≡ raised k (listOf part) → whole ≡ part → l ≡ raised k (listOf whole)
 at k = at-arm (λ (q : Queue). raised k (listOf q))
 
--- a test of a neighbour, by its value
-beside : (k a : Kind) (after : Bool) {b : Kind} {test v : Bool} → b ≡ neighbour a after → test ≡ same k b → test ≡ v → same k (neighbour a after) ≡ v
-beside k a after e t v = sym (ap (same k) e) ∙ sym t ∙ v
+-- the two tests of a pair, by the kinds that they are made on
+tests : (k a : Kind) (after : Bool) {b : Kind} {x y v : Bool} → b ≡ neighbour a after → x ≡ same k a → y ≡ same k b → (x || y) ≡ v
+    → (same k a || same k (neighbour a after)) ≡ v
+tests k a after e p q v = sym (ap₂ (λ (x y : Bool). x || y) p (q ∙ ap (same k) e)) ∙ v
 
 enum-told : tie.Need-enum-told
 enum-told c = search needs
@@ -69,32 +70,26 @@ returns-3 c =
 
 returns-4 : tie.Need-returns-4
 returns-4 c =
-    at _ (again-oldest _ _ _ (sym (c .before .same3 .ensures) ∙ c .if2 .taken)) (c .before .before .before .before .queue2 .given .1)
-
-returns-5 : tie.Need-returns-5
-returns-5 c =
-    let first = c .before .before .before in
+    let first = c .before .before in
     let known = first .before .before .before .queue2 .given in
     let k = first .before .before .before .before .before .args .kind in
     at k
-    (again-second k (known .0 .0) (known .0 .1 .0)
-    (sym (first .same3 .ensures) ∙ c .before .before .if2 .left)
-    (beside k (known .0 .0) (known .0 .1 .0) (first .before .neighbour2 .ensures) (c .before .same4 .ensures) (c .if3 .taken)))
+    (again-two k (known .0 .0) (known .0 .1 .0)
+    (tests k (known .0 .0) (known .0 .1 .0) (first .before .neighbour2 .ensures) (first .same3 .ensures) (c .before .same4 .ensures) (c .if2 .taken)))
     (known .1)
 
-returns-6 : tie.Need-returns-6
-returns-6 c =
-    let first = c .before .before .before in
+returns-5 : tie.Need-returns-5
+returns-5 c =
+    let first = c .before .before in
     let known = first .before .before .before .queue2 .given in
     let k = first .before .before .before .before .before .args .kind in
     at k
     (third-raised k (known .0 .0) (known .0 .1 .0)
-    (sym (first .same3 .ensures) ∙ c .before .before .if2 .left)
-    (beside k (known .0 .0) (known .0 .1 .0) (first .before .neighbour2 .ensures) (c .before .same4 .ensures) (c .if3 .left)))
+    (tests k (known .0 .0) (known .0 .1 .0) (first .before .neighbour2 .ensures) (first .same3 .ensures) (c .before .same4 .ensures) (c .if2 .left)))
     (known .1)
 
-returns-7 : tie.Need-returns-7
-returns-7 c = at _ (again-three _ _ _) (c .before .queue3 .given .1)
+returns-6 : tie.Need-returns-6
+returns-6 c = at _ (again-three _ _ _) (c .before .queue3 .given .1)
 
 pub raise-spec : {M : Type 1} → statement M
 raise-spec =
@@ -115,5 +110,4 @@ raise-spec =
     returns-3
     returns-4
     returns-5
-    returns-6
-    returns-7)
+    returns-6)
