@@ -10,7 +10,7 @@ use Rattle.fault.specs.declared.Fault.the-variants.{External, Translatio
 use Rattle.fault.specs.declared.Encoding.{Encoding}
 use Rattle.fault.specs.declared.Encoding.the-variants.{Code, Unwritable}
 use Rattle.bits.specs.Field.{bitOf}
-use Rattle.fault.specs.Fault.{byLevel, faultCode, statusWord, onCode, faultStatus, isAlignment, ifsrWord, writeBit, dfsrWord, isCode}
+use Rattle.fault.specs.Fault.{byLevel, faultRow, column, statusWord, onCode, statusOf, isAlignment, ifsrWord, writeBit, dfsrOf, dfsrWord, isCode}
 
 -- the level is one that the format has
 abbrev pub hasLevel : Bool → ℕ → Bool
@@ -47,7 +47,7 @@ levels x y Unwritable (suc (suc zero)) = refl
 levels x y Unwritable (suc (suc (suc zero))) = refl
 levels x y Unwritable (suc (suc (suc (suc l)))) = above x y Unwritable false (suc (suc (suc (suc l)))) (omega arith)
 
-coded : (f : Fault) (long : Bool) → isCode (faultCode f long) ≡ hasCode long f
+coded : (f : Fault) (long : Bool) → isCode (column (faultRow f) long) ≡ hasCode long f
 coded External true = refl
 coded External false = refl
 coded (Translation l) true = levels _ _ _ l
@@ -63,9 +63,9 @@ still : (f : ℕ → ℕ) (e : Encoding) → isCode (onCode f e) ≡ isCode e
 still f (Code c) = refl
 still f Unwritable = refl
 
-status-written : (f : Fault) (t : ℕ) → isCode (faultStatus f t) ≡ hasCode (bitOf t 31) f
-unfolding faultStatus
-status-written f t = still (λ c. statusWord c (bitOf t 31)) (faultCode f (bitOf t 31)) ∙ coded f (bitOf t 31)
+status-written : (f : Fault) (t : ℕ) → isCode (statusOf (faultRow f) t) ≡ hasCode (bitOf t 31) f
+unfolding statusOf
+status-written f t = still (λ c. statusWord c (bitOf t 31)) (column (faultRow f) (bitOf t 31)) ∙ coded f (bitOf t 31)
 
 -- a fault for data only is not written
 but : (b : Bool) (e : Encoding) → isCode (cond b Unwritable e) ≡ (not b && isCode e)
@@ -74,8 +74,8 @@ but false e = refl
 
 pub fetch-writable : (f : Fault) (t : ℕ) → isCode (ifsrWord f t) ≡ (not (isAlignment f) && hasCode (bitOf t 31) f)
 fetch-writable f t =
-    but (isAlignment f) (faultStatus f t) ∙ ap (λ (b : Bool). not (isAlignment f) && b) (status-written f t)
+    but (isAlignment f) (statusOf (faultRow f) t) ∙ ap (λ (b : Bool). not (isAlignment f) && b) (status-written f t)
 
 pub access-writable : (f : Fault) (write : Bool) (t : ℕ) → isCode (dfsrWord f write t) ≡ hasCode (bitOf t 31) f
-unfolding dfsrWord
-access-writable f write t = still (λ w. writeBit write + w) (faultStatus f t) ∙ status-written f t
+unfolding dfsrOf
+access-writable f write t = still (λ w. writeBit write + w) (statusOf (faultRow f) t) ∙ status-written f t

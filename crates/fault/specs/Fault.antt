@@ -22,9 +22,13 @@ faultRow (AccessFlag l) = record { short = byLevel l 0b00011 0b00110 Unwritable;
 faultRow (Permission l) = record { short = byLevel l 0b01101 0b01111 Unwritable; long = byLevel l 0b001101 0b001110 (Code 0b001111) }
 faultRow Alignment = record { short = Code 0b00001; long = Code 0b100001 }
 
-abbrev pub faultCode : Fault → Bool → Encoding
-faultCode f true = faultRow f .long
-faultCode f false = faultRow f .short
+-- an asynchronous external abort, which no injection carries (02, C-19: DFSR 0x406 short or 0x211 long)
+abbrev pub asynchronous : Row
+asynchronous = record { short = Code 0b10110; long = Code 0b010001 }
+
+abbrev pub column : Row → Bool → Encoding
+column row true = row .long
+column row false = row .short
 
 -- long: bit 9 set, STATUS in bits 5:0; short: FS 3:0 in bits 3:0, FS bit 4 in bit 10
 abbrev pub statusWord : ℕ → Bool → ℕ
@@ -36,9 +40,9 @@ abbrev pub onCode : (ℕ → ℕ) → Encoding → Encoding
 onCode f (Code c) = Code (f c)
 onCode f Unwritable = Unwritable
 
--- TTBCR bit 31 chooses the long format
-unfoldable pub faultStatus : Fault → ℕ → Encoding
-faultStatus f ttbcr = onCode (λ c. statusWord c (bitOf ttbcr 31)) (faultCode f (bitOf ttbcr 31))
+-- the word of a code by the row of its fault; TTBCR bit 31 chooses the long format
+unfoldable pub statusOf : Row → ℕ → Encoding
+statusOf row ttbcr = onCode (λ c. statusWord c (bitOf ttbcr 31)) (column row (bitOf ttbcr 31))
 
 -- an alignment fault is for data only
 abbrev pub isAlignment : Fault → Bool
@@ -50,18 +54,31 @@ isAlignment Alignment = true
 
 -- IFSR of a prefetch abort: the fault, and TTBCR
 abbrev pub ifsrWord : Fault → ℕ → Encoding
-ifsrWord f ttbcr = cond (isAlignment f) Unwritable (faultStatus f ttbcr)
+ifsrWord f ttbcr = cond (isAlignment f) Unwritable (statusOf (faultRow f) ttbcr)
 
 -- a write sets bit 11
 abbrev pub writeBit : Bool → ℕ
 writeBit true = 2 ^ 11
 writeBit false = 0
 
--- DFSR of a data abort: the fault, whether the access was a write, and TTBCR
-unfoldable pub dfsrWord : Fault → Bool → ℕ → Encoding
-dfsrWord f write ttbcr = onCode (λ w. writeBit write + w) (faultStatus f ttbcr)
+-- DFSR: the row of a fault, whether the access was a write, and TTBCR
+unfoldable pub dfsrOf : Row → Bool → ℕ → Encoding
+dfsrOf row write ttbcr = onCode (λ w. writeBit write + w) (statusOf row ttbcr)
+
+-- DFSR of a data abort
+abbrev pub dfsrWord : Fault → Bool → ℕ → Encoding
+dfsrWord f write ttbcr = dfsrOf (faultRow f) write ttbcr
 
 -- a fault that can be written in its register, in the format that TTBCR chooses
 abbrev pub isCode : Encoding → Bool
 isCode (Code w) = true
 isCode Unwritable = false
+
+-- a fault status register's word, where there is one
+abbrev pub codeIn : Encoding → ℕ
+codeIn (Code w) = w
+codeIn Unwritable = 0
+
+-- DFSR of a virtual abort, which is asynchronous and no write
+abbrev pub asynchronousDfsr : ℕ → ℕ
+asynchronousDfsr ttbcr = codeIn (dfsrOf asynchronous false ttbcr)

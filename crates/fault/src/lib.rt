@@ -1,6 +1,6 @@
 // The words of the fault status registers, DFSR and IFSR.
 ghost use mathlib.Core.Path.{_≡_};
-ghost use Rattle.fault.specs.Fault.{byLevel, faultRow, faultCode, statusWord, faultStatus, isAlignment, ifsrWord, dfsrWord};
+ghost use Rattle.fault.specs.Fault.{byLevel, faultRow, column, statusWord, statusOf, isAlignment, ifsrWord, dfsrOf, dfsrWord, asynchronousDfsr};
 use bits::bit;
 
 // A fault with the level of the lookup that gave it, where the fault has a level.
@@ -63,11 +63,10 @@ fn fault_row(fault: Fault) -> Row
     }
 }
 
-// The code's column.
-fn fault_code(fault: Fault, long: bool) -> Encoding
-    ensures { λ r. ⌜ r ≡ faultCode fault long ⌝ }
+// The format's column.
+fn column(row: Row, long: bool) -> Encoding
+    ensures { λ r. ⌜ r ≡ column row long ⌝ }
 {
-    let row = fault_row(fault);
     if long { row.long } else { row.short }
 }
 
@@ -83,12 +82,12 @@ fn status_word(code: u32, long: bool) -> u32
     }
 }
 
-// The fault in the format that TTBCR.EAE chooses.
-fn fault_status(fault: Fault, ttbcr: u32) -> Encoding
-    ensures { λ r. ⌜ r ≡ faultStatus fault ttbcr ⌝ }
+// The code in the format that TTBCR.EAE chooses.
+fn status_of(row: Row, ttbcr: u32) -> Encoding
+    ensures { λ r. ⌜ r ≡ statusOf row ttbcr ⌝ }
 {
     let long = bit(ttbcr as u64, 31);
-    match fault_code(fault, long) {
+    match column(row, long) {
         Encoding::Code(code) => Encoding::Code(status_word(code, long)),
         Encoding::Unwritable => Encoding::Unwritable,
     }
@@ -114,15 +113,15 @@ pub fn ifsr_word(fault: Fault, ttbcr: u32) -> Encoding
     if is_alignment(fault) {
         Encoding::Unwritable
     } else {
-        fault_status(fault, ttbcr)
+        status_of(fault_row(fault), ttbcr)
     }
 }
 
-// DFSR of a data abort: WnR, bit 11, is set for a write.
-pub fn dfsr_word(fault: Fault, write: bool, ttbcr: u32) -> Encoding
-    ensures { λ r. ⌜ r ≡ dfsrWord fault write ttbcr ⌝ }
+// DFSR: WnR, bit 11, is set for a write.
+fn dfsr_of(row: Row, write: bool, ttbcr: u32) -> Encoding
+    ensures { λ r. ⌜ r ≡ dfsrOf row write ttbcr ⌝ }
 {
-    match fault_status(fault, ttbcr) {
+    match status_of(row, ttbcr) {
         Encoding::Code(word) => {
             if write {
                 Encoding::Code(word | 0x800)
@@ -131,5 +130,26 @@ pub fn dfsr_word(fault: Fault, write: bool, ttbcr: u32) -> Encoding
             }
         }
         Encoding::Unwritable => Encoding::Unwritable,
+    }
+}
+
+// DFSR of a data abort.
+pub fn dfsr_word(fault: Fault, write: bool, ttbcr: u32) -> Encoding
+    ensures { λ r. ⌜ r ≡ dfsrWord fault write ttbcr ⌝ }
+{
+    dfsr_of(fault_row(fault), write, ttbcr)
+}
+
+// DFSR of a virtual abort: an asynchronous external abort, which no injection carries.
+pub fn asynchronous_dfsr(ttbcr: u32) -> u32
+    ensures { λ r. ⌜ r ≡ asynchronousDfsr ttbcr ⌝ }
+{
+    let asynchronous = Row {
+        short: Encoding::Code(0b10110),
+        long: Encoding::Code(0b010001),
+    };
+    match dfsr_of(asynchronous, false, ttbcr) {
+        Encoding::Code(word) => word,
+        Encoding::Unwritable => 0,
     }
 }

@@ -9,7 +9,7 @@ use Rattle.bits.proofs.Arms.{told, absurd-answer}
 use Rattle.status.specs.Sound.{sound}
 use Rattle.fault.specs.declared.Encoding.{Encoding}
 use Rattle.fault.specs.declared.Encoding.the-variants.{Code, Unwritable}
-use Rattle.fault.specs.Fault.{ifsrWord, dfsrWord, isCode}
+use Rattle.fault.specs.Fault.{ifsrWord, dfsrWord, codeIn, isCode}
 use Rattle.exception.specs.declared.state.FaultRegisters.{FaultRegisters}
 use Rattle.exception.specs.declared.state.Guest.{Guest}
 use Rattle.exception.specs.Vector.{aligned}
@@ -21,7 +21,7 @@ use Rattle.guest.specs.declared.injector.Injected.{Injected}
 use Rattle.guest.specs.declared.report.Report.{Report}
 use Rattle.guest.specs.declared.report.Report.the-variants.{Registers, NoStatus, NoAddress}
 use Rattle.guest.specs.Tests.{writable, addressFits}
-use Rattle.guest.specs.Inject.{codeIn, fetchWrites, accessWrites, faultsAfter, guestAfter, injectionAnswer, resulting, injected}
+use Rattle.guest.specs.Inject.{fetchWrites, accessWrites, faultsAfter, guestAfter, injectionAnswer, resulting, injected}
 use Rattle.guest.specs.Inner.{reportBy, reportOf}
 
 abbrev pub answerBy : Report → Answer

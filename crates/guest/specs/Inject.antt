@@ -5,7 +5,7 @@ use lib.Dec.{eqb}
 use Rattle.bits.specs.Decide.{decide}
 use Rattle.fault.specs.declared.Encoding.{Encoding}
 use Rattle.fault.specs.declared.Encoding.the-variants.{Code, Unwritable}
-use Rattle.fault.specs.Fault.{ifsrWord, dfsrWord}
+use Rattle.fault.specs.Fault.{ifsrWord, dfsrWord, codeIn}
 use Rattle.exception.specs.declared.state.FaultRegisters.{FaultRegisters}
 use Rattle.exception.specs.declared.state.Guest.{Guest}
 use Rattle.guest.specs.declared.answer.Answer.{Answer}
@@ -24,11 +24,6 @@ fetchWrites old status address = record { dfsr = old .dfsr; ifsr = status; dfar 
 
 abbrev pub accessWrites : FaultRegisters → ℕ → ℕ → FaultRegisters
 accessWrites old status address = record { dfsr = status; ifsr = old .ifsr; dfar = address; ifar = old .ifar }
-
--- a fault status register's word; an abort that is taken has one
-abbrev pub codeIn : Encoding → ℕ
-codeIn (Code w) = w
-codeIn Unwritable = 0
 
 -- the fault registers after an injection that is taken
 abbrev pub faultsAfter : Injection → FaultRegisters → ℕ → FaultRegisters

@@ -1,66 +1,21 @@
--- `fault::dfsr_word` meets its contract: a fault's word ends below bit 11, so that `|` adds WnR.
-use mathlib.Core.Path.{_≡_, refl, sym, ap, _∙_}
-use mathlib.Core.Bool.{Bool, true, false}
-use Prim.Native.Nat.{ℕ, _+_, _/_, _%_, _*_, _^_, _<_}
-use native.Mathlib.Nat.{zero-add}
-use native.Mathlib.Omega.{arith}
-use lib.Bits.{or-shifted-r}
+-- `fault::dfsr_word` meets its contract: the row is the fault's.
+use mathlib.Core.Path.{ap, _∙_}
 use borrow.Author.Needs.{needs}
-use Rattle.fault.specs.declared.Fault.{Fault}
-use Rattle.fault.specs.declared.Encoding.{Encoding}
-use Rattle.fault.specs.declared.Encoding.the-variants.{Code, Unwritable}
-use Rattle.bits.specs.Field.{bitOf}
-use Rattle.fault.specs.Fault.{faultCode, statusWord, onCode, faultStatus, writeBit, dfsrWord}
-use Rattle.bits.proofs.Arms.{told}
+use Rattle.fault.specs.declared.Row.{Row}
+use Rattle.fault.specs.Fault.{dfsrOf}
 use Rattle.fault.proofs.dfsr_word.Statement.{statement}
 use Rattle.fault.proofs.dfsr_word.Tie as tie
 
-word-below : (long : Bool) (e : Encoding) {w : ℕ} → onCode (λ c. statusWord c long) e ≡ Code w → w < 2 ^ 11
-word-below true (Code c) {w} p = let q : 2 ^ 9 + c / 2 ^ 0 % 2 ^ 6 ≡ w = cc in omega arith
-word-below false (Code c) {w} p = let q : c / 2 ^ 4 % 2 * 2 ^ 10 + c / 2 ^ 0 % 2 ^ 4 ≡ w = cc in omega arith
-word-below true Unwritable p = let z : _≡_ {A = ℕ} 0 1 = cc in omega arith
-word-below false Unwritable p = let z : _≡_ {A = ℕ} 0 1 = cc in omega arith
+fault-row-requires : tie.Need-fault-row-requires
+fault-row-requires c κs = search needs
 
-below-11 : (f : Fault) (t : ℕ) {w : ℕ} → faultStatus f t ≡ Code w → w < 2 ^ 11
-unfolding faultStatus
-below-11 f t = word-below (bitOf t 31) (faultCode f (bitOf t 31))
-
--- the word x that was found, marked by whether the access was a write
-marked : (f : Fault) {write : Bool} (t : ℕ) {b : Bool} {e x : Encoding} → write ≡ b → e ≡ faultStatus f t → e ≡ x
-    → onCode (λ w. writeBit b + w) x ≡ dfsrWord f write t
-unfolding dfsrWord
-marked f t {b} p q d =
-    ap (onCode (λ w. writeBit b + w)) (sym d ∙ q) ∙ told (λ (b : Bool). onCode (λ w. writeBit b + w) (faultStatus f t)) p
-
-fault-status-requires : tie.Need-fault-status-requires
-fault-status-requires c κs = search needs
-
-enum-known-word : tie.Need-enum-known-word
-enum-known-word c = search needs
-
-enum-told : tie.Need-enum-told
-enum-told c = search needs
+dfsr-of-requires : tie.Need-dfsr-of-requires
+dfsr-of-requires c κs = search needs
 
 returns : tie.Need-returns
 returns c =
-    let start = c .before .before .before .before .before in
-    let found = c .before .before .before .before .fault-status .ensures in
-    let code = c .before .before .word .given .1 in
-    ap Code (or-shifted-r 1 11 _ (below-11 (start .args .fault) (start .args .ttbcr) (sym found ∙ code)))
-    ∙ marked (start .args .fault) (start .args .ttbcr) (c .if1 .taken) found code
-
-returns-2 : tie.Need-returns-2
-returns-2 c =
-    let start = c .before .before .before .before .before in
-    ap Code (sym (zero-add _))
-    ∙ marked (start .args .fault) (start .args .ttbcr) (c .if1 .left) (c .before .before .before .before .fault-status .ensures) (c .before .before .word .given .1)
-
-returns-3 : tie.Need-returns-3
-returns-3 c =
-    let start = c .before .before .before in
-    marked (start .args .fault) (start .args .ttbcr) refl (c .before .before .fault-status .ensures) (c .enum-told .given .1)
+    let start = c .before .before in
+    c .dfsr-of .ensures ∙ ap (λ (row : Row). dfsrOf row (start .args .write) (start .args .ttbcr)) (c .before .fault-row .ensures)
 
 pub dfsr-word-spec : {M : Type 1} → statement M
-dfsr-word-spec =
-    tie.close
-    (tie.spec fault-status-requires enum-known-word enum-told returns returns-2 returns-3)
+dfsr-word-spec = tie.close (tie.spec fault-row-requires dfsr-of-requires returns)

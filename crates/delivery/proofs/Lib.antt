@@ -1,0 +1,2 @@
+-- The laws of the delivery step.
+pub mod Answers

@@ -1,0 +1,16 @@
+-- What the calls that deliver promise: the answer, what waits after it and the whole state are the plain queue's, and the answer's number, mask and count.
+use mathlib.Core.Path.{_≡_}
+use Rattle.bits.specs.Decide.{decide}
+use Rattle.exception.specs.declared.state.Guest.{Guest}
+use Rattle.pending.specs.declared.Queue.{Queue}
+use Rattle.pending.specs.Reading.{listOf}
+use Rattle.pending.specs.Step.{stepTo, stepOf}
+use Rattle.delivery.specs.declared.Delivered.{Delivered}
+use Rattle.delivery.specs.Answer.{answerNumber, answerMask, answerCount, plainAnswer}
+use Rattle.delivery.specs.Deliver.{deliveryNumbers, guestDelivery}
+
+pub record Delivering (q : Queue) (s : Guest) (r : Delivered) : Type 0 where
+  pub result : stepTo (plainAnswer (r .answer)) (listOf (r .queue)) (r .state) ≡ stepOf guestDelivery (listOf q) s
+  pub number : answerNumber (r .answer) ≡ decide (deliveryNumbers s) 0
+  pub mask : answerMask (r .answer) ≡ 0
+  pub count : answerCount (r .answer) ≡ 0

@@ -1,0 +1,155 @@
+// A delivery step: of the interrupts that wait for a guest, the oldest whose mask bit is 0 is injected into its state.
+ghost use mathlib.Core.Path.{_≡_};
+ghost use Rattle.delivery.specs.Row.{deliveryRow};
+ghost use Rattle.delivery.specs.Answer.{answerNumber};
+ghost use Rattle.delivery.specs.Deliver.{masksOf, faultsAfter, deliveredIn};
+ghost use Rattle.delivery.specs.Promise.{Delivering};
+use bits::bit;
+use exception::FaultRegisters;
+use exception::Guest;
+use exception::Row;
+use exception::aligned;
+use exception::enter;
+use fault::asynchronous_dfsr;
+use pending::Choice;
+use pending::Kind;
+use pending::Masks;
+use pending::Queue;
+use pending::next;
+use signed::Signed;
+use status::Mode;
+use status::sound;
+
+pub enum Answer {
+    Delivered(Kind),
+    // Nothing waits whose mask bit is 0.
+    Nothing,
+    // The status word's mode, or a bit of its 24:21, is wrong.
+    UnsoundStatus,
+    // VBAR bits 4:0 are not zero.
+    UnalignedVbar,
+}
+
+// What a step leaves: a refusal, and a step that delivers nothing, leave the queue and the state as they came.
+pub struct Delivered {
+    pub answer: Answer,
+    pub queue: Queue,
+    pub state: Guest,
+}
+
+pub fn number(answer: Answer) -> u32
+    ensures { λ r. ⌜ r ≡ answerNumber answer ⌝ }
+{
+    match answer {
+        Answer::Delivered(_) => 0,
+        Answer::Nothing => 0,
+        Answer::UnsoundStatus => 9,
+        Answer::UnalignedVbar => 10,
+    }
+}
+
+// The mask bits of a status word.
+fn masks_of(status: u32) -> Masks
+    ensures { λ r. ⌜ r ≡ masksOf status ⌝ }
+{
+    Masks {
+        a: bit(status as u64, 8),
+        f: bit(status as u64, 6),
+        i: bit(status as u64, 7),
+    }
+}
+
+// The table of deliveries; a virtual abort's row is a data abort's.
+fn delivery_row(kind: Kind) -> Row
+    ensures { λ r. ⌜ r ≡ deliveryRow kind ⌝ }
+{
+    match kind {
+        Kind::Abort => Row {
+            mode: Mode::Abort,
+            vector: 0x10,
+            link: 20,
+            a: true,
+            f: false,
+            a32: Signed::Plus(8),
+            t32: Signed::Plus(8),
+        },
+        Kind::Fiq => Row {
+            mode: Mode::Fiq,
+            vector: 0x1C,
+            link: 30,
+            a: true,
+            f: true,
+            a32: Signed::Plus(4),
+            t32: Signed::Plus(4),
+        },
+        Kind::Irq => Row {
+            mode: Mode::Irq,
+            vector: 0x18,
+            link: 16,
+            a: true,
+            f: false,
+            a32: Signed::Plus(4),
+            t32: Signed::Plus(4),
+        },
+    }
+}
+
+// A virtual abort writes DFSR alone: it has no address.
+fn faults_after(kind: Kind, old: FaultRegisters, ttbcr: u32) -> FaultRegisters
+    ensures { λ r. ⌜ r ≡ faultsAfter kind old ttbcr ⌝ }
+{
+    match kind {
+        Kind::Abort => FaultRegisters {
+            dfsr: asynchronous_dfsr(ttbcr),
+            ifsr: old.ifsr,
+            dfar: old.dfar,
+            ifar: old.ifar,
+        },
+        Kind::Fiq => old,
+        Kind::Irq => old,
+    }
+}
+
+fn delivered_in(state: Guest, kind: Kind) -> Guest
+    ensures { λ r. ⌜ r ≡ deliveredIn state kind ⌝ }
+{
+    let old = state.faults;
+    let faults = faults_after(kind, old, state.ttbcr);
+    enter(state, delivery_row(kind), faults)
+}
+
+// The answer, with the queue and the state after it. The state is tested even if nothing waits.
+pub fn deliver(queue: Queue, state: Guest) -> Delivered
+    ensures { λ r. ⌜ Delivering queue state r ⌝ }
+{
+    let marks = state.marks;
+    if !sound(marks, state.status) {
+        return Delivered {
+            answer: Answer::UnsoundStatus,
+            queue,
+            state,
+        };
+    }
+    if !aligned(state.vbar) {
+        return Delivered {
+            answer: Answer::UnalignedVbar,
+            queue,
+            state,
+        };
+    }
+    match next(queue, masks_of(state.status)) {
+        Choice::Nothing => Delivered {
+            answer: Answer::Nothing,
+            queue,
+            state,
+        },
+        Choice::Oldest(kind, left) => {
+            let after = delivered_in(state, kind);
+            Delivered {
+                answer: Answer::Delivered(kind),
+                queue: left,
+                state: after,
+            }
+        }
+    }
+}
