@@ -7,6 +7,7 @@ use crate::device::{finish, Access};
 use crate::form::{Form, Record};
 use crate::guest::{inject, Fault, Injection, State};
 use crate::long::LONG;
+use crate::pending::Run;
 use crate::short::SHORT;
 use crate::status::{from_spsr, is_mode, Marks};
 use crate::syndrome::{read, word_to_look_up, write, Refusal};
@@ -83,6 +84,11 @@ pub enum Call {
         value: u32,
         state: State,
         record: Record,
+    },
+    /// Raises and delivery steps, these by value or on a state that is lent.
+    Run {
+        lent: bool,
+        run: Run,
     },
     Decode {
         word: u32,
@@ -204,6 +210,9 @@ impl Call {
                     record: Record::from_row(&LONG, record)?,
                 })
             }
+            (b"run" | b"runlent", row) => {
+                Some(Call::Run { lent: name == b"runlent", run: Run::from_row(row)? })
+            }
             (b"decode", &[word]) => Some(Call::Decode { word: narrow(word)? }),
             (b"encode", fields) => Some(Call::Encode { fields: Fields::from_row(fields)? }),
             (b"access", [word, state @ ..]) => {
@@ -250,6 +259,7 @@ impl Call {
                 let name = if *lent { "finlent" } else { "finish" };
                 (name, [row![*value], state.numbers(), record.row()].concat())
             }
+            Call::Run { lent, run } => (if *lent { "runlent" } else { "run" }, run.row()),
             Call::Decode { word } => ("decode", row![*word]),
             Call::Encode { fields } => ("encode", fields.row()),
             Call::Describe { word, state } => ("access", [row![*word], state.numbers()].concat()),
@@ -287,6 +297,7 @@ impl Call {
             Call::Inject { .. }
             | Call::Spsr { .. }
             | Call::Held { .. }
+            | Call::Run { .. }
             | Call::Decode { .. }
             | Call::Encode { .. }
             | Call::Describe { .. } => {}
@@ -347,6 +358,7 @@ impl Call {
                     Err(refusal) => row![refusal, 0u8, 0u8],
                 }
             }
+            Call::Run { run, .. } => run.answer(),
             Call::Decode { word } => {
                 let form = a32::find(forms, *word).ok_or(Refusal::plain(19));
                 answered(form.map(|form| form.fields(*word).row()))
@@ -575,6 +587,10 @@ mod tests {
             format!("finish 0{state} 0 0 1 0"),
             format!("finish 100000000{state} 0 0 1"),
             "finish 0 0 0 1".into(),
+            format!("run{state}"),
+            format!("run{state} 0 3"),
+            format!("run{state} 1 0 0"),
+            format!("runs{state} 0 0"),
         ];
         for line in bad {
             assert!(Call::parse(line.as_bytes()).is_none(), "{line}");
@@ -592,6 +608,7 @@ mod tests {
             "carry 1 2 5 1 0 f",
             "widen 1f 0 22 0",
             "spsr 1 0 1 1000010",
+            &format!("runlent{} 0 2 1 20 90 30", " 0".repeat(48)),
         ] {
             assert_eq!(Call::parse(line.as_bytes()).expect("a row").line(), line);
         }

@@ -1,4 +1,4 @@
-//! The guest's state and the five injections.
+//! The guest's state, the five injections and the three interrupts.
 
 use crate::status::{Marks, Status};
 
@@ -135,9 +135,23 @@ pub enum Injection {
     DataAbort { fault: Fault, address: u64, write: bool },
 }
 
-/// The modes that an injection enters.
+/// What may wait for a guest.
+#[derive(Clone, Copy, Debug, PartialEq, Eq, PartialOrd, Ord)]
+pub enum Interrupt {
+    Abort,
+    Fiq,
+    Irq,
+}
+
+impl Interrupt {
+    pub const ALL: [Interrupt; 3] = [Interrupt::Abort, Interrupt::Fiq, Interrupt::Irq];
+}
+
+/// The modes that are entered.
 #[derive(Clone, Copy)]
 enum Mode {
+    Fiq,
+    Irq,
     Supervisor,
     Abort,
     Undefined,
@@ -146,6 +160,8 @@ enum Mode {
 impl Mode {
     fn number(self) -> u8 {
         match self {
+            Mode::Fiq => 0x11,
+            Mode::Irq => 0x12,
             Mode::Supervisor => 0x13,
             Mode::Abort => 0x17,
             Mode::Undefined => 0x1b,
@@ -154,6 +170,8 @@ impl Mode {
 
     fn spsr(self, state: &mut State) -> &mut u32 {
         match self {
+            Mode::Fiq => &mut state.spsr_fiq,
+            Mode::Irq => &mut state.spsr_irq,
             Mode::Supervisor => &mut state.spsr_svc,
             Mode::Abort => &mut state.spsr_abt,
             Mode::Undefined => &mut state.spsr_und,
@@ -161,13 +179,15 @@ impl Mode {
     }
 }
 
-/// A row of the table of injections.
+/// A row of the table of injections and interrupts. Every one sets I.
 struct Entry {
     mode: Mode,
     vector: u32,
     link: usize,
     correction_a32: i64,
     correction_t32: i64,
+    sets_a: bool,
+    sets_f: bool,
 }
 
 impl Injection {
@@ -179,11 +199,34 @@ impl Injection {
             Injection::PrefetchAbort { .. } => (Mode::Abort, 0x0c, 20, 4, 4),
             Injection::DataAbort { .. } => (Mode::Abort, 0x10, 20, 8, 8),
         };
-        Entry { mode, vector, link, correction_a32, correction_t32 }
+        let sets_a = self.is_abort();
+        Entry { mode, vector, link, correction_a32, correction_t32, sets_a, sets_f: false }
     }
 
     fn is_abort(&self) -> bool {
         matches!(self, Injection::PrefetchAbort { .. } | Injection::DataAbort { .. })
+    }
+}
+
+impl Interrupt {
+    /// A virtual abort enters as a data abort does.
+    fn entry(self) -> Entry {
+        let (mode, vector, link, correction, sets_f) = match self {
+            Interrupt::Abort => (Mode::Abort, 0x10, 20, 8, false),
+            Interrupt::Fiq => (Mode::Fiq, 0x1c, 30, 4, true),
+            Interrupt::Irq => (Mode::Irq, 0x18, 16, 4, false),
+        };
+        let (correction_a32, correction_t32) = (correction, correction);
+        Entry { mode, vector, link, correction_a32, correction_t32, sets_a: true, sets_f }
+    }
+
+    /// Its mask bit in a status word.
+    pub fn is_masked(self, status: &Status) -> bool {
+        match self {
+            Interrupt::Abort => status.a,
+            Interrupt::Fiq => status.f,
+            Interrupt::Irq => status.i,
+        }
     }
 }
 
@@ -195,16 +238,10 @@ enum FaultReport {
 
 /// The state after the injection, or the number of the refusal.
 pub fn inject(state: &State, injection: &Injection) -> Result<State, u8> {
-    let old = Status::unpack(state.status);
-    if !old.is_accepted(&state.marks) {
-        return Err(9);
-    }
-    if !state.vbar.is_multiple_of(32) {
-        return Err(10);
-    }
+    let old = status_of(state)?;
     let report = fault_report(state.format(), injection)?;
     let mut after = state.clone();
-    enter(&mut after, &old, injection);
+    enter(&mut after, &old, &injection.entry());
     match report {
         Some(FaultReport::Instruction { ifsr, ifar }) => (after.ifsr, after.ifar) = (ifsr, ifar),
         Some(FaultReport::Data { dfsr, dfar }) => (after.dfsr, after.dfar) = (dfsr, dfar),
@@ -213,9 +250,34 @@ pub fn inject(state: &State, injection: &Injection) -> Result<State, u8> {
     Ok(after)
 }
 
+/// The state after an interrupt that is taken. Of the fault registers a virtual abort
+/// writes DFSR alone.
+pub fn interrupt(state: &State, old: &Status, interrupt: Interrupt) -> State {
+    let mut after = state.clone();
+    enter(&mut after, old, &interrupt.entry());
+    if interrupt == Interrupt::Abort {
+        after.dfsr = match state.format() {
+            Format::Short => 0x406,
+            Format::Long => 0x211,
+        };
+    }
+    after
+}
+
+/// Tests 9 and 10: the status word's fields, or the number of the refusal.
+pub fn status_of(state: &State) -> Result<Status, u8> {
+    let status = Status::unpack(state.status);
+    if !status.is_accepted(&state.marks) {
+        return Err(9);
+    }
+    if !state.vbar.is_multiple_of(32) {
+        return Err(10);
+    }
+    Ok(status)
+}
+
 /// Exception entry: the link, the saved status, the new status and PC.
-fn enter(state: &mut State, old: &Status, injection: &Injection) {
-    let entry = injection.entry();
+fn enter(state: &mut State, old: &Status, entry: &Entry) {
     let correction = if old.t { entry.correction_t32 } else { entry.correction_a32 };
     state.registers[entry.link] = modulo_2_32(i64::from(state.pc) + correction);
     *entry.mode.spsr(state) = state.status;
@@ -223,7 +285,8 @@ fn enter(state: &mut State, old: &Status, injection: &Injection) {
     let new = Status {
         mode: entry.mode.number(),
         i: true,
-        a: old.a || injection.is_abort(),
+        a: old.a || entry.sets_a,
+        f: old.f || entry.sets_f,
         t: sctlr.te,
         e: sctlr.ee,
         il: false,

@@ -19,6 +19,7 @@ mod log_runs;
 mod long;
 #[cfg(any(feature = "compare", test))]
 mod ordinary;
+mod pending;
 mod programs;
 #[cfg(feature = "compare")]
 mod proved;

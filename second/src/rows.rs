@@ -6,6 +6,8 @@ mod aborts;
 mod finish;
 mod inject;
 mod malformed;
+#[cfg(test)]
+mod pending;
 mod read;
 mod samples;
 mod short;
