@@ -4,8 +4,8 @@
 use mathlib.Core.Path.{_≡_, refl, sym, ap, _∙_, subst, subst₂}
 use mathlib.Core.Bool.{Bool, true, false, cond, not, _&&_}
 use mathlib.Core.List.{List, [], _∷_, _++_}
-use mathlib.Core.Logic.{_⊎_, inl, inr}
-use Prim.Native.Nat.{ℕ, suc, _+_, _≤_, _<_}
+use mathlib.Core.Logic.{inl, inr}
+use Prim.Native.Nat.{ℕ, suc, _≤_, _<_}
 use native.Mathlib.Omega.{arith}
 use lib.ListN.{length}
 use Rattle.bits.specs.Field.{digit}
@@ -16,7 +16,7 @@ use Rattle.pending.specs.declared.Queue.the-variants.{Empty, One, Two, T
 use Rattle.pending.specs.Plain.{codeOf, waits, raised, oldest, behind, chosen}
 use Rattle.pending.specs.Reading.{neighbour, listOf}
 use Rattle.pending.specs.Step.{Delivery, Answer, delivered, Step, stepTo, taken, stepOf}
-use Rattle.pending.specs.Run.{Made, raising, delivering, Promised, Run, counts, counted, DeliveredBy}
+use Rattle.pending.specs.Run.{Made, raising, delivering, Run, counts, counted, DeliveredBy}
 use Rattle.pending.proofs.Lists.{raised-waits, raise-leaves, older, older-below, raise-behind}
 use Rattle.pending.proofs.Queues.{at-most-three}
 use Rattle.pending.proofs.Steps.{step-taken, Moved, moved}

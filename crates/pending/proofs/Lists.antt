@@ -1,15 +1,15 @@
 -- Laws of the plain queue, over every list of kinds.
 -- Assumes nothing.
 use mathlib.Core.Path.{_≡_, refl, sym, ap, _∙_, subst}
-use mathlib.Core.Bool.{Bool, true, false, cond, not, _&&_, _||_, true≢false}
-use mathlib.Core.List.{List, [], _∷_, _++_, append-assoc}
+use mathlib.Core.Bool.{Bool, true, false, cond, not, _||_, true≢false}
+use mathlib.Core.List.{List, [], _∷_, _++_}
 use mathlib.Core.Logic.{_⊎_, inl, inr}
-use Prim.Native.Nat.{ℕ, zero, suc, _+_, _≤_, _<_}
+use Prim.Native.Nat.{ℕ, suc, _+_, _≤_, _<_}
 use native.Mathlib.Omega.{arith}
 use lib.ListN.{length}
 use Rattle.bits.specs.Field.{digit}
 use Rattle.pending.specs.declared.Kind.{Kind}
-use Rattle.pending.specs.Plain.{same, waits, distinct, raised, Chosen, none, oldest, behind, chosen}
+use Rattle.pending.specs.Plain.{same, waits, raised, Chosen, none, oldest, behind, chosen}
 use Rattle.pending.proofs.Round.{same-kind, same-self}
 
 -- ---- raising

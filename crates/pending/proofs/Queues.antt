@@ -1,7 +1,8 @@
--- The values of `Queue` are exactly the lists of kinds without repeats: sixteen.
+-- A queue's list has no kind twice, and a list is one queue's at most. With `reached` (Reached.antt) the values of `Queue` are exactly the sixteen
+-- lists without repeats.
 -- Assumes nothing.
 use mathlib.Core.Path.{_≡_, refl, sym, ap, _∙_}
-use mathlib.Core.Bool.{Bool, true, false, not, _&&_, _||_, or-false}
+use mathlib.Core.Bool.{Bool, true, false, _||_, or-false}
 use mathlib.Core.List.{List, [], _∷_}
 use Prim.Native.Nat.{_≤_}
 use native.Mathlib.Omega.{arith}

@@ -1,7 +1,7 @@
 -- Every list without repeats is reached by calls, and every list of calls has a run, over any type of guest state.
 -- Assumes nothing.
 use mathlib.Core.Path.{_≡_, refl, sym, ap, ap₂, _∙_}
-use mathlib.Core.Bool.{Bool, true, false, not, _&&_, _||_, true≢false}
+use mathlib.Core.Bool.{Bool, true, false, not, _||_, true≢false}
 use mathlib.Core.List.{List, [], _∷_, _++_, append-assoc, append-nil}
 use borrow.Author.Tests.{not-true}
 use Rattle.bits.proofs.Booleans.{and-left, and-right}
@@ -88,5 +88,5 @@ module _ {S : Type 0} (d : Delivery S) where
   run-distinct calls =
       let found = run-of Empty calls in
       ap (λ (c : List (Call S)). distinct (lastFrom d [] c)) (sym (found .3))
-      ∙ ap distinct (sym (runs d (found .1) (found .0) (found .2) .1))
+      ∙ ap distinct (sym (runs d Empty (found .1) (found .0) refl (found .2) .1))
       ∙ no-repeats (found .1)

@@ -3,10 +3,9 @@
 use mathlib.Core.Path.{_≡_, refl, sym, ap, ap₂, _∙_, subst}
 use mathlib.Core.Bool.{true, false, true≢false}
 use mathlib.Core.List.{List, [], _∷_}
-use mathlib.Core.Logic.{_⊎_, inl, inr}
+use mathlib.Core.Logic.{inl, inr}
 use Rattle.pending.specs.declared.Kind.{Kind}
 use Rattle.pending.specs.declared.Queue.{Queue}
-use Rattle.pending.specs.declared.Queue.the-variants.{Empty}
 use Rattle.pending.specs.Plain.{waits}
 use Rattle.pending.specs.Reading.{listOf}
 use Rattle.pending.specs.Step.{Delivery, Answer, delivered, Step, stepTo}
@@ -38,9 +37,10 @@ module _ {S : Type 0} (d : Delivery S) where
 
   -- OVER RUNS: whatever calls were made, one after the other and with nothing waiting at the start, what came back from each is what the plain
   -- queue answers to these calls, the state after each step included; and the queue that the last one left is the plain queue's
-  pub runs : (last : Queue) (made : List (Made S)) → Run d Empty made last
+  pub runs : (q last : Queue) (made : List (Made S)) → listOf q ≡ [] → Run d q made last
       → (made ≡ runFrom d [] (callsOf made)) × (listOf last ≡ lastFrom d [] (callsOf made))
-  runs = run-from Empty
+  runs q last made empty run =
+      subst (λ (l : List Kind). (made ≡ runFrom d l (callsOf made)) × (listOf last ≡ lastFrom d l (callsOf made))) empty (run-from q last made run)
 
   -- NO WITHDRAWAL: a kind that waits before a call and not after it was delivered by that call
   pub no-withdrawal : (k : Kind) (q r : Queue) (m : Made S) → Promised d q m r → waits k (listOf q) ≡ true → waits k (listOf r) ≡ false

@@ -1,17 +1,17 @@
 -- How a delivery step ends, over any type of guest state.
 -- Assumes nothing.
 use mathlib.Core.Path.{_≡_, refl, sym, ap, _∙_, subst}
-use mathlib.Core.Bool.{Bool, true, false, cond, not, _&&_, true≢false}
-use mathlib.Core.List.{List, [], _∷_, _++_}
+use mathlib.Core.Bool.{Bool, true, false, cond, not, _&&_}
+use mathlib.Core.List.{List, _∷_, _++_}
 use mathlib.Core.Logic.{_⊎_, inl, inr}
-use Prim.Native.Nat.{ℕ, _+_, _≤_}
+use Prim.Native.Nat.{_+_, _≤_}
 use native.Mathlib.Omega.{arith}
 use borrow.Author.Tests.{eqb-true}
 use Rattle.bits.specs.Field.{digit}
 use Rattle.bits.proofs.Arms.{absurd-answer}
 use Rattle.pending.specs.declared.Kind.{Kind}
 use Rattle.pending.specs.Plain.{waits, Chosen, none, oldest, chosen}
-use Rattle.pending.specs.Step.{Delivery, Answer, refused, nothing, delivered, answerNumber, Step, stepTo, taken, deliverTo, stepOf}
+use Rattle.pending.specs.Step.{Delivery, refused, nothing, delivered, answerNumber, Step, stepTo, taken, deliverTo, stepOf}
 use Rattle.pending.specs.Run.{counts}
 use Rattle.pending.proofs.Lists.{older, AllMasked, Choosing, none-open, first-open, choosing, Passed, passed}
 

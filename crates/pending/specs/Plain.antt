@@ -6,7 +6,7 @@ use lib.Dec.{eqb}
 use Rattle.pending.specs.declared.Kind.{Kind}
 use Rattle.pending.specs.declared.Kind.the-variants.{Abort, Fiq, Irq}
 
--- whether two kinds are one
+-- a number for each kind, and whether two kinds are one
 abbrev pub codeOf : Kind → ℕ
 codeOf Abort = 0
 codeOf Fiq = 1

@@ -8,7 +8,7 @@ use Rattle.pending.specs.declared.Kind.{Kind}
 use Rattle.pending.specs.declared.Queue.{Queue}
 use Rattle.pending.specs.Plain.{raised}
 use Rattle.pending.specs.Reading.{listOf}
-use Rattle.pending.specs.Step.{Delivery, Answer, delivered, Step, stepTo, taken, stepOf}
+use Rattle.pending.specs.Step.{Delivery, Answer, delivered, stepTo, taken, stepOf}
 
 -- a call: a kind is raised, or a step is made on a state of its own
 pub data Call (S : Type 0) : Type 0 where
@@ -67,7 +67,8 @@ module _ {S : Type 0} (d : Delivery S) where
   counted k (raising j ∷ made) = counted k made
   counted k (delivering s answer after ∷ made) = digit (counts k s) + counted k made
 
-  -- a run delivers a kind in a step before which fewer than n count for the kind: at the latest in the n-th that counts
+  -- a run delivers a kind in a step before which fewer than n count for the kind: at the latest in the n-th that counts, since that step itself
+  -- counts (`delivering-counts`, proofs/Steps.antt)
   pub record DeliveredBy (n : ℕ) (k : Kind) (made : List (Made S)) : Type 0 where
     pub before : List (Made S)
     pub state : S
