@@ -53,13 +53,13 @@ same-number UnalignedVbar = refl
 
 -- what the calls promise, by their equation alone
 pub promised : (q : Queue) (s : Guest) (r : struct.Delivered)
-    → stepTo (plainAnswer (r .answer)) (listOf (r .queue)) (r .state) ≡ stepOf guestDelivery (listOf q) s → Delivering q s r
+    → stepTo (plainAnswer (r .outcome .answer)) (listOf (r .outcome .queue)) (r .state) ≡ stepOf guestDelivery (listOf q) s → Delivering q s r
 unfolding guestDelivery
 promised q s r e =
     record {
       result = e;
       number =
-          same-number (r .answer)
+          same-number (r .outcome .answer)
           ∙ ap (λ (x : Step Guest). plain.answerNumber (x .answer)) e
           ∙ step-number guestDelivery (listOf q) s;
       mask = refl;

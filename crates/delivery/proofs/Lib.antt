@@ -1,2 +1,4 @@
 -- The laws of the delivery step.
 pub mod Answers
+pub mod Frame
+pub mod Runs

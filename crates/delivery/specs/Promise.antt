@@ -10,7 +10,7 @@ use Rattle.delivery.specs.Answer.{answerNumber, answerMask, answerCount,
 use Rattle.delivery.specs.Deliver.{deliveryNumbers, guestDelivery}
 
 pub record Delivering (q : Queue) (s : Guest) (r : Delivered) : Type 0 where
-  pub result : stepTo (plainAnswer (r .answer)) (listOf (r .queue)) (r .state) ≡ stepOf guestDelivery (listOf q) s
-  pub number : answerNumber (r .answer) ≡ decide (deliveryNumbers s) 0
-  pub mask : answerMask (r .answer) ≡ 0
-  pub count : answerCount (r .answer) ≡ 0
+  pub result : stepTo (plainAnswer (r .outcome .answer)) (listOf (r .outcome .queue)) (r .state) ≡ stepOf guestDelivery (listOf q) s
+  pub number : answerNumber (r .outcome .answer) ≡ decide (deliveryNumbers s) 0
+  pub mask : answerMask (r .outcome .answer) ≡ 0
+  pub count : answerCount (r .outcome .answer) ≡ 0

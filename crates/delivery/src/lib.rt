@@ -1,6 +1,6 @@
 // A delivery step: of the interrupts that wait for a guest, the oldest whose mask bit is 0 is injected into its state.
 ghost use mathlib.Core.Path.{_≡_};
-ghost use Rattle.delivery.specs.Row.{deliveryRow};
+ghost use Rattle.delivery.specs.Row.{row, deliveryRow};
 ghost use Rattle.delivery.specs.Answer.{answerNumber};
 ghost use Rattle.delivery.specs.Deliver.{masksOf, faultsAfter, deliveredIn};
 ghost use Rattle.delivery.specs.Promise.{Delivering};
@@ -30,10 +30,15 @@ pub enum Answer {
     UnalignedVbar,
 }
 
-// What a step leaves: a refusal, and a step that delivers nothing, leave the queue and the state as they came.
-pub struct Delivered {
+// A step's answer, and what waits after it.
+pub struct Outcome {
     pub answer: Answer,
     pub queue: Queue,
+}
+
+// A refusal, and a step that delivers nothing, leave the queue and the state as they came.
+pub struct Delivered {
+    pub outcome: Outcome,
     pub state: Guest,
 }
 
@@ -59,38 +64,29 @@ fn masks_of(status: u32) -> Masks
     }
 }
 
+// Every delivery sets A, and corrects PC alike in both instruction sets.
+fn row(mode: Mode, vector: u32, link: usize, f: bool, correction: u32) -> Row
+    ensures { λ r. ⌜ r ≡ row mode vector link f correction ⌝ }
+{
+    Row {
+        mode,
+        vector,
+        link,
+        a: true,
+        f,
+        a32: Signed::Plus(correction),
+        t32: Signed::Plus(correction),
+    }
+}
+
 // The table of deliveries; a virtual abort's row is a data abort's.
 fn delivery_row(kind: Kind) -> Row
     ensures { λ r. ⌜ r ≡ deliveryRow kind ⌝ }
 {
     match kind {
-        Kind::Abort => Row {
-            mode: Mode::Abort,
-            vector: 0x10,
-            link: 20,
-            a: true,
-            f: false,
-            a32: Signed::Plus(8),
-            t32: Signed::Plus(8),
-        },
-        Kind::Fiq => Row {
-            mode: Mode::Fiq,
-            vector: 0x1C,
-            link: 30,
-            a: true,
-            f: true,
-            a32: Signed::Plus(4),
-            t32: Signed::Plus(4),
-        },
-        Kind::Irq => Row {
-            mode: Mode::Irq,
-            vector: 0x18,
-            link: 16,
-            a: true,
-            f: false,
-            a32: Signed::Plus(4),
-            t32: Signed::Plus(4),
-        },
+        Kind::Abort => row(Mode::Abort, 0x10, 20, false, 8),
+        Kind::Fiq => row(Mode::Fiq, 0x1C, 30, true, 4),
+        Kind::Irq => row(Mode::Irq, 0x18, 16, false, 4),
     }
 }
 
@@ -118,36 +114,36 @@ fn delivered_in(state: Guest, kind: Kind) -> Guest
     enter(state, delivery_row(kind), faults)
 }
 
+// A step that moves nothing.
+fn unmoved(answer: Answer, queue: Queue, state: Guest) -> Delivered
+    ensures { λ r. ⌜ r ≡ record { outcome = record { answer = answer; queue = queue }; state = state } ⌝ }
+{
+    Delivered {
+        outcome: Outcome { answer, queue },
+        state,
+    }
+}
+
 // The answer, with the queue and the state after it. The state is tested even if nothing waits.
 pub fn deliver(queue: Queue, state: Guest) -> Delivered
     ensures { λ r. ⌜ Delivering queue state r ⌝ }
 {
     let marks = state.marks;
     if !sound(marks, state.status) {
-        return Delivered {
-            answer: Answer::UnsoundStatus,
-            queue,
-            state,
-        };
+        return unmoved(Answer::UnsoundStatus, queue, state);
     }
     if !aligned(state.vbar) {
-        return Delivered {
-            answer: Answer::UnalignedVbar,
-            queue,
-            state,
-        };
+        return unmoved(Answer::UnalignedVbar, queue, state);
     }
     match next(queue, masks_of(state.status)) {
-        Choice::Nothing => Delivered {
-            answer: Answer::Nothing,
-            queue,
-            state,
-        },
+        Choice::Nothing => unmoved(Answer::Nothing, queue, state),
         Choice::Oldest(kind, left) => {
             let after = delivered_in(state, kind);
             Delivered {
-                answer: Answer::Delivered(kind),
-                queue: left,
+                outcome: Outcome {
+                    answer: Answer::Delivered(kind),
+                    queue: left,
+                },
                 state: after,
             }
         }

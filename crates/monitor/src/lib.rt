@@ -1,10 +1,14 @@
 // The one guest state that the monitor keeps, lent to the calls that change it.
 ghost use Rattle.guest.specs.Promise.{Promise};
 ghost use Rattle.device.specs.Promise.{FinishPromise};
+ghost use Rattle.delivery.specs.Promise.{Delivering};
+use delivery::Outcome;
+use delivery::deliver;
 use device::finish;
 use exception::Guest;
 use guest::Injection;
 use guest::inject;
+use pending::Queue;
 use record::Record;
 
 // Injects into the state where it lies: answer and state are those of the call by value, on a refusal too.
@@ -23,4 +27,13 @@ pub fn finish_in_place(state: &mut Guest, what: Record, value: u32) -> device::A
     let done = finish(*state, what, value);
     *state = done.state;
     done.answer
+}
+
+// Makes a delivery step on the state where it lies, in the same way: the queue goes in by value, and comes back beside the answer.
+pub fn deliver_in_place(state: &mut Guest, queue: Queue) -> Outcome
+    ensures { λ r. ⌜ Delivering queue (now (state .entry)) (record { outcome = r; state = now (state .exit) }) ⌝ }
+{
+    let step = deliver(queue, *state);
+    *state = step.state;
+    step.outcome
 }
