@@ -123,7 +123,9 @@ pub const STATES: Checker = Checker {
 
 pub const A32: Checker = Checker { name: "check_a32", calls: &["decode", "encode", "access"] };
 
-pub const CHECKERS: [Checker; 3] = [WORDS, STATES, A32];
+pub const RUNS: Checker = Checker { name: "check_runs", calls: &["run", "runlent"] };
+
+pub const CHECKERS: [Checker; 4] = [WORDS, STATES, A32, RUNS];
 
 impl Checker {
     /// Whether a line begins with the word of one of its calls.

@@ -2,7 +2,7 @@
 //! compared with what this program answers. No contract reaches what a program
 //! reads and writes.
 
-use crate::call::{self, A32, STATES, WORDS};
+use crate::call::{self, A32, RUNS, STATES, WORDS};
 use crate::catalogue::Catalogue;
 use crate::log;
 use crate::log_runs;
@@ -24,12 +24,13 @@ struct Program {
     inputs: fn() -> Vec<(String, Vec<u8>)>,
 }
 
-const PROGRAMS: [Program; 5] = [
+const PROGRAMS: [Program; 6] = [
     Program { name: "trapread", answers: trapread, inputs: trapread_inputs },
     Program { name: "logread", answers: logread, inputs: log_runs::inputs },
     Program { name: WORDS.name, answers: |input| WORDS.answers(input), inputs: words_inputs },
     Program { name: STATES.name, answers: |input| STATES.answers(input), inputs: states_inputs },
     Program { name: A32.name, answers: |input| A32.answers(input), inputs: a32_inputs },
+    Program { name: RUNS.name, answers: |input| RUNS.answers(input), inputs: runs_inputs },
 ];
 
 /// Runs the programs of a folder; true when all wrote what they must.
@@ -267,7 +268,10 @@ fn row_inputs(
         ("a last line without its newline", format!("{first}\n{second}")),
         ("a last line that is no row", format!("{first}\n{cut}")),
         ("a last line of a space", format!("{first}\n ")),
-        ("rows of every program", "read 0 92000005\nheld 13 d\ndecode e5910004\n".into()),
+        (
+            "rows of every program",
+            format!("read 0 92000005\nheld 13 d\ndecode e5910004\nrun{} 0 0\n", " 0".repeat(48)),
+        ),
     ];
     let mut inputs: Vec<(String, Vec<u8>)> =
         texts.into_iter().map(|(name, text)| (name.into(), text.into_bytes())).collect();
@@ -291,17 +295,37 @@ fn words_inputs() -> Vec<(String, Vec<u8>)> {
 
 fn states_inputs() -> Vec<(String, Vec<u8>)> {
     row_inputs(["held 13 d", "spsr 0 0 0 10"], |random| {
-        let mut state: Vec<u64> = (0..45).map(|_| random.word().into()).collect();
-        state[32] = 0x10 + random.below(16);
-        state[43] &= 0xffff_ffe0;
-        state.extend([0; 3]);
-        format!("inject {:x} 0 0 0 0 {}", random.below(3), call::text(&state))
+        let state = call::text(&random_state(random));
+        format!("inject {:x} 0 0 0 0 {state}", random.below(3))
     })
+}
+
+/// A state of random words with an aligned VBAR, without marks, in some mode's number.
+fn random_state(random: &mut Random) -> Vec<u64> {
+    let mut state: Vec<u64> = (0..45).map(|_| random.word().into()).collect();
+    state[32] = 0x10 + random.below(16);
+    state[43] &= 0xffff_ffe0;
+    state.extend([0; 3]);
+    state
 }
 
 fn a32_inputs() -> Vec<(String, Vec<u8>)> {
     row_inputs(["decode e5910004", "decode 0"], |random| {
         format!("decode {:x}", 0xe400_0000 + random.below(0x400_0000))
+    })
+}
+
+fn runs_inputs() -> Vec<(String, Vec<u8>)> {
+    let run = |state: &[u64], calls: &str| format!("run {} {calls}", call::text(state));
+    let first = run(&[0; 48], "0 2 1 20 10 30");
+    let second = run(&[0; 48], "0 1 0 0 1 20 13 30 1 30");
+    row_inputs([&first, &second], |random| {
+        let state = random_state(random);
+        let calls = (0..8).map(|_| match random.below(2) {
+            0 => format!("0 {:x}", random.below(3)),
+            _ => format!("1 20 {:x} 30", 0x10 + (random.below(8) << 6)),
+        });
+        run(&state, &calls.collect::<Vec<_>>().join(" "))
     })
 }
 

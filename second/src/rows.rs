@@ -6,7 +6,6 @@ mod aborts;
 mod finish;
 mod inject;
 mod malformed;
-#[cfg(test)]
 mod pending;
 mod read;
 mod samples;
@@ -38,7 +37,8 @@ fn questions() -> Vec<String> {
         .chain(inject::questions())
         .chain(finish::questions())
         .chain(short::questions())
-        .chain(a32::questions());
+        .chain(a32::questions())
+        .chain(pending::questions());
     let calls: Vec<Call> = calls.collect();
     let derived = derived(&calls);
     calls.iter().chain(&derived).map(Call::line).collect()
@@ -204,6 +204,8 @@ mod tests {
             ("decode", 1000, "0 13"),
             ("encode", 1000, "0 13"),
             ("access", 500, "0 9 13"),
+            ("run", 900, "0 9 a"),
+            ("runlent", 200, "0 9 a"),
         ];
         let files = files().expect("the cases of the paper");
         let mut given: BTreeMap<String, (usize, BTreeSet<String>)> = BTreeMap::new();

@@ -13,7 +13,7 @@ struct Line {
     named: bool,
     // The numbers that have ended.
     count: usize,
-    numbers: [u64; 64],
+    numbers: [u64; 256],
     // The number that has not ended, and whether it has a digit.
     value: u64,
     begun: bool,
@@ -27,7 +27,7 @@ fn empty_line() -> Line {
         word: 0,
         named: false,
         count: 0,
-        numbers: [0; 64],
+        numbers: [0; 256],
         value: 0,
         begun: false,
         good: true,
@@ -52,7 +52,7 @@ fn end_number(line: Line) -> Line {
     next.good = next.good & next.begun;
     next.value = 0;
     next.begun = false;
-    if count < 64 {
+    if count < 256 {
         next.numbers[count] = value;
         next.count = count + 1;
     } else {
@@ -151,7 +151,7 @@ pub fn start() -> Reader {
         row: Row {
             word: 0,
             count: 0,
-            numbers: [0; 64],
+            numbers: [0; 256],
         },
         ended: false,
         place: Place {

@@ -1,20 +1,21 @@
 // Replies: the numbers of a line, and the line written.
 use super::row::Row;
 use super::row::long;
+use super::row::with_number;
 use libc::STDOUT_FILENO;
 use std::num::wrapping_add_usize;
 
 // What a row is answered by. No call answers with more numbers.
 pub struct Reply {
     count: usize,
-    numbers: [u64; 128],
+    numbers: [u64; 256],
 }
 
 // To a line that is no row of the program's calls: a reply with no number, which is written so.
 pub fn no_row() -> Reply {
     Reply {
         count: 0,
-        numbers: [0; 128],
+        numbers: [0; 256],
     }
 }
 
@@ -22,7 +23,7 @@ pub fn no_row() -> Reply {
 pub fn with(reply: Reply, n: u64) -> Reply {
     let mut next = reply;
     let count = next.count;
-    if count < 128 {
+    if count < 256 {
         next.numbers[count] = n;
         next.count = count + 1;
     }
@@ -49,7 +50,7 @@ pub fn with_words(reply: Reply, words: &[u32]) -> Reply {
 
 fn number_at(reply: Reply, at: usize) -> u64 {
     let numbers = reply.numbers;
-    if at < 128 { numbers[at] } else { 0 }
+    if at < 256 { numbers[at] } else { 0 }
 }
 
 // A reply with the numbers of another after its own.
@@ -77,6 +78,26 @@ pub fn with_changes(reply: Reply, before: Row, place: usize, words: &[u32]) -> R
     let mut i = 0;
     while i < words.len() {
         next = with_change(next, before, wrapping_add_usize(place, i), wide(words[i]));
+        i += 1;
+    }
+    next
+}
+
+fn put_change(row: Row, changes: Reply, i: usize) -> Row {
+    let at = wrapping_add_usize(i, i);
+    with_number(
+        row,
+        number_at(changes, at),
+        number_at(changes, wrapping_add_usize(at, 1)),
+    )
+}
+
+// A row with the numbers of a reply, each put at the place that stands before it.
+pub fn changed(row: Row, changes: Reply) -> Row {
+    let mut next = row;
+    let mut i = 0;
+    while i < changes.count / 2 {
+        next = put_change(next, changes, i);
         i += 1;
     }
     next
@@ -112,12 +133,12 @@ fn write_line(line: &[u8], end: usize) -> bool {
     }
 }
 
-// Writes a reply as a line, for which there is room: 128 numbers of 16 digits. Tells whether it could be written.
+// Writes a reply as a line, for which there is room: 256 numbers of 16 digits and what follows each. Tells whether it could be written.
 pub fn write(reply: Reply) -> bool {
     if reply.count == 0 {
         return io::write_all(STDOUT_FILENO, b"no row\n");
     }
-    let mut line = [0u8; 4096];
+    let mut line = [0u8; 4352];
     let end = put(&mut line, reply);
     let whole = text::append(&mut line, end, b"\n");
     write_line(&line, whole)

@@ -7,7 +7,7 @@ pub struct Row {
     pub(crate) word: u64,
     // How many numbers it has.
     pub(crate) count: usize,
-    pub(crate) numbers: [u64; 64],
+    pub(crate) numbers: [u64; 256],
 }
 
 // A word with one letter more.
@@ -34,7 +34,7 @@ pub fn is(row: Row, letters: &[u8]) -> bool {
 // The number at a place of a row that has been found to have its shape.
 pub fn long(row: Row, at: usize) -> u64 {
     let numbers = row.numbers;
-    if at < 64 { numbers[at] } else { 0 }
+    if at < 256 { numbers[at] } else { 0 }
 }
 
 pub fn word(row: Row, at: usize) -> u32 {
@@ -82,11 +82,26 @@ pub fn shaped(row: Row, shape: &[u8]) -> bool {
     begins(row, shape) & (row.count == shape.len())
 }
 
+// How many numbers a row has.
+pub fn count(row: Row) -> usize {
+    row.count
+}
+
+// The row with another number at a place.
+pub fn with_number(row: Row, place: u64, n: u64) -> Row {
+    let mut next = row;
+    let at = place as usize;
+    if at < 256 {
+        next.numbers[at] = n;
+    }
+    next
+}
+
 // The row from a place on, under the same word.
 pub fn rest(row: Row, from: usize) -> Row {
-    let mut numbers = [0u64; 64];
+    let mut numbers = [0u64; 256];
     let mut i = 0;
-    while i < 64 {
+    while i < 256 {
         numbers[i] = long(row, wrapping_add_usize(from, i));
         i += 1;
     }

@@ -46,6 +46,9 @@ fn rows() -> Vec<String> {
     rows.push(format!("access e5910004{state}"));
     rows.push(format!("finish 1{state} 9 1 1 2 0 3 0 0 0 0 0 0 0 1 5"));
     rows.push(format!("finlent 1{state} 6 11 1 ffff"));
+    for word in ["run", "runlent"] {
+        rows.push(format!("{word}{state} 0 2 1 20 10 2b 40 2d 1 30 1 30"));
+    }
     rows
 }
 
@@ -88,6 +91,9 @@ pub fn lines(checker: &Checker) -> Vec<u8> {
     if checker.is_asked_by(b"read") {
         lines.extend(words_and_lengths());
     }
+    if checker.is_asked_by(b"run") {
+        lines.extend(runs());
+    }
     lines.join("\n").into_bytes()
 }
 
@@ -102,4 +108,18 @@ fn words_and_lengths() -> Vec<String> {
         "r".repeat(2000),
         "read 0 2000000".into(),
     ]
+}
+
+/// Runs of as many calls and numbers as there may be and of more; without a call; that
+/// end inside a call; and with a change that is no state's, which the next one mends.
+fn runs() -> Vec<String> {
+    let long = |changes: usize| format!("1{} 30", " 0 1".repeat(changes));
+    let raises = |calls: usize| vec!["0 1"; calls].join(" ");
+    let mut calls = vec![raises(24), raises(25), long(103), long(104)];
+    let short = ["0", "1", "1 0", "1 0 0", "1 30 1", "0 0 30", "1 0 100000000 0 1 30"];
+    calls.extend(short.map(String::from));
+    let state = vec!["0"; 48].join(" ");
+    let mut lines = vec![format!("run {state}")];
+    lines.extend(calls.iter().map(|calls| format!("run {state} {calls}")));
+    lines
 }

@@ -341,8 +341,7 @@ mod tests {
     #[test]
     fn steps_give_every_answer_that_they_can_give() {
         let questions = questions();
-        let text: String = questions.iter().map(|question| question.line() + "\n").collect();
-        let answers = answers(text.as_bytes());
+        let answers = answers(&questions.iter().cloned().map(Some).collect::<Vec<_>>());
         let mut given = BTreeSet::new();
         for (question, answer) in questions.iter().zip(lines(&answers)) {
             let Call::Run { run, .. } = question else { panic!("a run") };

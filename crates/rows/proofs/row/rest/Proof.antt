@@ -6,10 +6,10 @@ use Rattle.rows.proofs.row.rest.Statement.{statement}
 use Rattle.rows.proofs.row.rest.Tie as tie
 
 abbrev Inv-loop : tie.InvT-loop
-Inv-loop row from numbers₀ i₀ numbers i = length numbers ≡ 64
+Inv-loop row from numbers₀ i₀ numbers i = length numbers ≡ 256
 
 abbrev μ-loop : tie.MeasureT-loop
-μ-loop row from numbers₀ i₀ numbers i = 64 - i
+μ-loop row from numbers₀ i₀ numbers i = 256 - i
 
 loop-holds : tie.Need-loop-holds Inv-loop μ-loop
 loop-holds c = search needs
