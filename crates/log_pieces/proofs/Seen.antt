@@ -12,18 +12,18 @@ use lib.Dec.{eqb}
 use lib.ListN.{length, drop, getD}
 use lib.Seq.{drop-cons, drop-length}
 use lib.Pow.{pow-mono}
+use Rattle.bits.specs.Among.{among}
 use Rattle.edition.specs.Mask.{maskBelow}
 use Rattle.edition.proofs.Masks.{mask-below}
-use Rattle.log_pieces.specs.Text.{among}
 
 -- a search that has come to entry i
 module _ (editions : List ℕ) (edition : ℕ) where
   pub found-here : (i : ℕ) → i < length editions → getD editions i 0 ≡ edition → among (drop i editions) edition ≡ true
-  found-here i h e = rw (drop-cons editions i 0 h) (simp (eq-eqb (getD editions i 0) edition e))
+  found-here i h e = rw (drop-cons editions i 0 h) (simp (eq-eqb edition (getD editions i 0) (sym e)))
 
   pub not-here : (i : ℕ) → i < length editions → (getD editions i 0 ≡ edition → ⊥)
       → among (drop i editions) edition ≡ among (drop (i + 1) editions) edition
-  not-here i h n = rw (add-one i, drop-cons editions i 0 h) (simp (ne-eqb (getD editions i 0) edition n))
+  not-here i h n = rw (add-one i, drop-cons editions i 0 h) (simp (ne-eqb edition (getD editions i 0) (λ e. n (sym e))))
 
   pub nowhere-left : (i : ℕ) → i ≡ length editions → among (drop i editions) edition ≡ false
   nowhere-left i e = rw (e, drop-length)

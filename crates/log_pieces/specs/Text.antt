@@ -1,10 +1,11 @@
 -- The text of a log: how the log was read; and of a log that was accepted the editions seen, in the log's order, each trap with its registers and
 -- what each known edition among those seen makes of it, and the injections.
 use Prim.Native.Nat.{ℕ, zero, suc}
-use mathlib.Core.Bool.{Bool, false, cond, _||_}
+use mathlib.Core.Bool.{cond}
 use mathlib.Core.List.{List, [], _∷_, _++_, map, zipWith, flatten}
 use lib.Dec.{eqb}
 use lib.ListN.{getD}
+use Rattle.bits.specs.Among.{among}
 use Rattle.edition.specs.Mask.{maskOf}
 use Rattle.log.specs.Log.{Address, Entries, entriesOf}
 use Rattle.log.specs.Answer.{numberOf, readOf}
@@ -19,10 +20,6 @@ unfoldable pub shown : List ℕ → Entries
 shown s = cond (eqb (numberOf (readOf s)) 0) (entriesOf s) nothing
 
 -- the mask of the known editions among those seen
-abbrev pub among : List ℕ → ℕ → Bool
-among [] edition = false
-among (first ∷ rest) edition = eqb first edition || among rest edition
-
 abbrev pub seenMask : Entries → ℕ
 seenMask e = maskOf (among (e .editions))
 

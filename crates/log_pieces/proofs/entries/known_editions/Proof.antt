@@ -6,7 +6,8 @@ use Prim.Native.Nat.{ℕ, _+_, _-_, _*_, _^_, _≤_, _<_}
 use native.Mathlib.Omega.{arith}
 use denote.Ref.{now}
 use Rattle.edition.specs.Mask.{maskBelow, maskOf}
-use Rattle.log_pieces.specs.Text.{shown, among}
+use Rattle.bits.specs.Among.{among}
+use Rattle.log_pieces.specs.Text.{shown}
 use Rattle.log_pieces.proofs.Seen.{mask-more, mask-same-on, power-more, power-within, mask-within}
 use Rattle.log_pieces.proofs.entries.known_editions.Statement.{statement}
 use Rattle.log_pieces.proofs.entries.known_editions.Tie as tie

@@ -6,7 +6,8 @@ use Prim.Native.Nat.{_-_, _≤_, _<_}
 use native.Mathlib.Omega.{arith}
 use denote.Ref.{now}
 use lib.ListN.{length, drop}
-use Rattle.log_pieces.specs.Text.{shown, among}
+use Rattle.bits.specs.Among.{among}
+use Rattle.log_pieces.specs.Text.{shown}
 use Rattle.log_pieces.proofs.Seen.{found-here, not-here, nowhere-left}
 use Rattle.log_pieces.proofs.entries.seen.Statement.{statement}
 use Rattle.log_pieces.proofs.entries.seen.Tie as tie
