@@ -16,7 +16,7 @@ use Rattle.iss.specs.Rule.{implies, abortRule, extensionRule, maintenanceRule}
 use Rattle.record.specs.declared.kinds.DataAbort.{DataAbort}
 use Rattle.record.specs.declared.kinds.Record.{Record}
 use Rattle.record.specs.declared.kinds.Sort.{Sort}
-use Rattle.record.specs.Fields.{fieldsOf}
+use Rattle.layout.specs.Fields.{fieldsOf}
 use Rattle.record.specs.Sort.{sortOf}
 use Rattle.record.proofs.Sorts.{data-abort-sort}
 use Rattle.rule.specs.Has.{has, editionsOf}

@@ -1,6 +1,5 @@
-// Records of syndrome words: their kinds, the layout of each, and what a word's bits hold. Nothing is judged here.
+// Records of syndrome words: their kinds, what a word's bits hold, and what a record tells beside its fields. Nothing is judged here.
 mod class;
-pub mod join;
 mod kinds;
 pub mod split;
 mod told;
@@ -11,7 +10,6 @@ pub use class::mcr_class;
 pub use class::mcrr_class;
 pub use class::plain_class;
 pub use class::without_isv;
-pub use join::joined;
 pub use kinds::Addresses;
 pub use kinds::Call;
 pub use kinds::DataAbort;

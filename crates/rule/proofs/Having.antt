@@ -9,7 +9,7 @@ use Rattle.bits.specs.Layout.{fitting}
 use Rattle.bits.proofs.Booleans.{and-left, and-right, holds}
 use Rattle.edition.specs.Feature.{editions, isEdition}
 use Rattle.record.specs.Class.{headOf}
-use Rattle.record.specs.Fields.{fieldsOf}
+use Rattle.layout.specs.Fields.{fieldsOf}
 use Rattle.record.specs.declared.kinds.Record.{Record}
 use Rattle.rule.specs.Rule.{layoutRule}
 use Rattle.rule.specs.Code.{editionRule}

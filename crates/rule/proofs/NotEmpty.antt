@@ -7,7 +7,7 @@ use Prim.Native.Nat.{ℕ}
 use Rattle.bits.specs.Field.{fieldOf}
 use Rattle.edition.proofs.Everywhere.{AllHave, allMasks, all-have}
 use Rattle.record.specs.Class.{classes}
-use Rattle.record.specs.Fields.{recordWord}
+use Rattle.layout.specs.Fields.{recordWord}
 use Rattle.record.specs.declared.kinds.Record.{Record}
 use Rattle.edition.specs.Feature.{editions}
 use Rattle.rule.specs.Has.{lawful, has}

@@ -6,7 +6,7 @@ use Rattle.bits.specs.Layout.{fitting}
 use Rattle.edition.specs.Feature.{isEdition}
 use Rattle.edition.specs.Mask.{maskOf}
 use Rattle.record.specs.Class.{headOf}
-use Rattle.record.specs.Fields.{fieldsOf}
+use Rattle.layout.specs.Fields.{fieldsOf}
 use Rattle.record.specs.declared.kinds.Record.{Record}
 use Rattle.rule.specs.Il.{ilRule}
 use Rattle.rule.specs.Rule.{layoutRule}

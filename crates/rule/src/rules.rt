@@ -3,7 +3,7 @@
 ghost use mathlib.Core.Path.{_≡_};
 ghost use mathlib.Core.Bool.{_&&_};
 ghost use Rattle.bits.specs.Layout.{fitting};
-ghost use Rattle.record.specs.Fields.{plainFields, wfxFields, mcrFields, mcrrFields, ldcFields, simdFields, callFields, smcFields, instructionAbortFields, dataAbortFields, fieldsOf};
+ghost use Rattle.layout.specs.Fields.{plainFields, wfxFields, mcrFields, mcrrFields, ldcFields, simdFields, callFields, smcFields, instructionAbortFields, dataAbortFields, fieldsOf};
 ghost use Rattle.iss.specs.Rule.{conditionRule, directionRule, immediateRule, addressingRule, passedRule, abortRule};
 ghost use Rattle.rule.specs.Rule.{noSyndromeRule, validSyndromeRule, syndromeRule, dataRule, layoutRule};
 use record::Call;

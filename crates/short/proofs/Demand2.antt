@@ -7,7 +7,7 @@ use mathlib.Core.Logic.{_↔_}
 use Prim.Native.Nat.{ℕ}
 use Rattle.form.proofs.Forms as Forms
 use Rattle.form.proofs.Demand2 as Forms2
-use Rattle.short_record.specs.Fields.{recordWord}
+use Rattle.short_layout.specs.Fields.{recordWord}
 use Rattle.short_record.specs.declared.kinds.Hsr.{Hsr}
 use Rattle.short_record.specs.declared.kinds.Record.{Record}
 use Rattle.short_rule.specs.Has.{has}

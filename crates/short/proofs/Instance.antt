@@ -8,9 +8,9 @@ use Rattle.bits.specs.Decide.{AllPass}
 use Rattle.form.specs.Answer.{Answer, given, refused}
 use Rattle.form.proofs.Forms.{Sound}
 use Rattle.form.proofs.Shows.{Shows}
-use Rattle.short_record.specs.Fields.{recordWord}
+use Rattle.short_layout.specs.Fields.{recordWord}
 use Rattle.short_record.specs.declared.kinds.Record.{Record}
-use Rattle.short_record.proofs.RoundTrip.{record-back, word-class, head-test}
+use Rattle.short_layout.proofs.RoundTrip.{record-back, word-class, head-test}
 use Rattle.short_rule.specs.Il.{ilRule}
 use Rattle.short_rule.specs.Has.{has}
 use Rattle.short_rule.proofs.Lengths.{ignores-isv}

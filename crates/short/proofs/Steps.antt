@@ -18,11 +18,11 @@ use Rattle.form.specs.Form as Form
 use Rattle.form.proofs.Shows.{again-given, again-refused, carried-given, carried-refused}
 use Rattle.form.proofs.Verdicts.{made-mask, verdictOf, call-verdict}
 use Rattle.short_record.specs.Class.{headOf}
-use Rattle.short_record.specs.Fields.{fieldsOf, recordWord}
+use Rattle.short_layout.specs.Fields.{fieldsOf, recordWord}
 use Rattle.short_record.specs.Split.{recordAt}
 use Rattle.short_record.specs.declared.kinds.Hsr.{Hsr}
 use Rattle.short_record.specs.declared.kinds.Record.{Record}
-use Rattle.short_record.proofs.RoundTrip.{word-fits, joined-record}
+use Rattle.short_layout.proofs.RoundTrip.{word-fits, joined-record}
 use Rattle.short_rule.specs.Has.{has, recordIl, editionsOf}
 use Rattle.short_rule.proofs.Having.{has-fits}
 use Rattle.short.specs.Inner.{makes}

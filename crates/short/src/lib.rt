@@ -24,7 +24,7 @@ use short_record::Record;
 fn word_editions(r: Record, word: u64) -> u32
     ensures { λ m. ⌜ m ≡ maskOf (λ e. makes e r word) ⌝ }
 {
-    if short_record::joined(r) == word {
+    if short_layout::joined(r) == word {
         short_rule::editions(r)
     } else {
         0
@@ -78,7 +78,7 @@ pub fn write(edition: u32, r: Record) -> Written
         return Written::Refused(Refusal::ShortInstruction);
     }
     match edition::judge(edition, short_rule::editions(r)) {
-        Verdict::Taken => Written::Word(Hsr(short_record::joined(r) as u32)),
+        Verdict::Taken => Written::Word(Hsr(short_layout::joined(r) as u32)),
         Verdict::Refused(refusal) => Written::Refused(refusal),
     }
 }

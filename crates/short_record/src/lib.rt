@@ -1,12 +1,10 @@
-// Records of the short form's words (HSR): their kinds, the layout of each, and what a word's bits hold. Nothing is judged here.
+// Records of the short form's words (HSR): their kinds, and what a word's bits hold. Nothing is judged here.
 mod class;
-mod join;
 mod kinds;
 mod split;
 
 pub use class::head;
 pub use class::is_class;
-pub use join::joined;
 pub use kinds::DataAbort;
 pub use kinds::Hsr;
 pub use kinds::InstructionAbort;

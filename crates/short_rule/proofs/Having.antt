@@ -9,7 +9,7 @@ use Rattle.bits.specs.Layout.{fitting}
 use Rattle.bits.proofs.Booleans.{and-left, and-right, holds}
 use Rattle.short_rule.specs.Edition.{editions, isEdition}
 use Rattle.short_record.specs.Class.{headOf}
-use Rattle.short_record.specs.Fields.{fieldsOf}
+use Rattle.short_layout.specs.Fields.{fieldsOf}
 use Rattle.short_record.specs.declared.kinds.Record.{Record}
 use Rattle.short_rule.specs.Rule.{layoutRule}
 use Rattle.short_rule.specs.Code.{editionRule}

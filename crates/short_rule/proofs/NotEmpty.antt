@@ -7,7 +7,7 @@ use Prim.Native.Nat.{ℕ}
 use Rattle.bits.specs.Field.{fieldOf}
 use Rattle.edition.proofs.Everywhere.{AllHave, allMasks, all-have}
 use Rattle.short_record.specs.Class.{classes}
-use Rattle.short_record.specs.Fields.{recordWord}
+use Rattle.short_layout.specs.Fields.{recordWord}
 use Rattle.short_record.specs.declared.kinds.Record.{Record}
 use Rattle.short_rule.specs.Edition.{editions}
 use Rattle.short_rule.specs.Has.{lawful, has}

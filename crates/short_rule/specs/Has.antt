@@ -4,7 +4,7 @@ use Prim.Native.Nat.{ℕ}
 use mathlib.Core.Bool.{Bool, _&&_}
 use Rattle.bits.specs.Layout.{fitting}
 use Rattle.short_record.specs.Class.{headOf}
-use Rattle.short_record.specs.Fields.{fieldsOf}
+use Rattle.short_layout.specs.Fields.{fieldsOf}
 use Rattle.short_record.specs.declared.kinds.Record.{Record}
 use Rattle.short_rule.specs.Edition.{isEdition, maskOf}
 use Rattle.short_rule.specs.Il.{ilRule}

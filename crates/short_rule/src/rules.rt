@@ -3,7 +3,7 @@ ghost use mathlib.Core.Path.{_≡_};
 ghost use mathlib.Core.Bool.{_&&_};
 ghost use Rattle.bits.specs.Layout.{fitting};
 ghost use Rattle.iss.specs.Rule.{conditionRule, directionRule, addressingRule, abortRule};
-ghost use Rattle.short_record.specs.Fields.{mcrFields, mcrrFields, ldcFields, simdFields, instructionAbortFields, dataAbortFields, fieldsOf};
+ghost use Rattle.short_layout.specs.Fields.{mcrFields, mcrrFields, ldcFields, simdFields, instructionAbortFields, dataAbortFields, fieldsOf};
 ghost use Rattle.short_rule.specs.Rule.{coprocRule, asynchronous, noSyndromeRule, validSyndromeRule, syndromeRule, asynchronousRule, dataRule, layoutRule};
 use rule::rules;
 use short_record::DataAbort;

@@ -7,7 +7,7 @@ use mathlib.Core.Logic.{_↔_}
 use Prim.Native.Nat.{ℕ}
 use Rattle.form.proofs.Forms as Forms
 use Rattle.form.proofs.Demand2 as Forms2
-use Rattle.record.specs.Fields.{recordWord}
+use Rattle.layout.specs.Fields.{recordWord}
 use Rattle.record.specs.declared.kinds.Esr.{Esr}
 use Rattle.record.specs.declared.kinds.Record.{Record}
 use Rattle.rule.specs.Has.{has}

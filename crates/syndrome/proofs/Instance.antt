@@ -10,9 +10,9 @@ use Rattle.bits.specs.Decide.{AllPass}
 use Rattle.form.specs.Answer.{Answer, given, refused}
 use Rattle.form.proofs.Forms.{Sound}
 use Rattle.form.proofs.Shows.{Shows}
-use Rattle.record.specs.Fields.{recordWord}
+use Rattle.layout.specs.Fields.{recordWord}
 use Rattle.record.specs.declared.kinds.Record.{Record}
-use Rattle.record.proofs.RoundTrip.{record-back, word-fits, word-class, head-test}
+use Rattle.layout.proofs.RoundTrip.{record-back, word-fits, word-class, head-test}
 use Rattle.rule.specs.Il.{ilRule}
 use Rattle.rule.specs.Has.{has}
 use Rattle.rule.proofs.Lengths.{ignores-isv}

@@ -18,11 +18,11 @@ use Rattle.form.specs.Form as Form
 use Rattle.form.proofs.Shows.{again-given, again-refused, carried-given, carried-refused}
 use Rattle.form.proofs.Verdicts.{made-mask, verdictOf, call-verdict}
 use Rattle.record.specs.Class.{headOf}
-use Rattle.record.specs.Fields.{fieldsOf, recordWord}
+use Rattle.layout.specs.Fields.{fieldsOf, recordWord}
 use Rattle.record.specs.Split.{recordAt}
 use Rattle.record.specs.declared.kinds.Esr.{Esr}
 use Rattle.record.specs.declared.kinds.Record.{Record}
-use Rattle.record.proofs.RoundTrip.{joined-record}
+use Rattle.layout.proofs.RoundTrip.{joined-record}
 use Rattle.rule.specs.Has.{has, recordIl, editionsOf}
 use Rattle.rule.proofs.Having.{has-fits}
 use Rattle.syndrome.specs.Inner.{makes}

@@ -1,7 +1,7 @@
 -- The long form: what crate form says of any form is said of it.
 use Rattle.edition.specs.Feature.{editions}
 use Rattle.form.specs.Form.{Form}
-use Rattle.record.specs.Fields.{recordWord}
+use Rattle.layout.specs.Fields.{recordWord}
 use Rattle.record.specs.Split.{recordAt}
 use Rattle.record.specs.declared.kinds.Record.{Record}
 use Rattle.rule.specs.Has.{has}

@@ -2,7 +2,7 @@
 use Prim.Native.Nat.{ℕ}
 use mathlib.Core.Bool.{Bool, _&&_}
 use lib.Dec.{eqb}
-use Rattle.record.specs.Fields.{recordWord}
+use Rattle.layout.specs.Fields.{recordWord}
 use Rattle.record.specs.declared.kinds.Record.{Record}
 use Rattle.rule.specs.Has.{has}
 

@@ -24,7 +24,7 @@ use record::Record;
 fn word_editions(r: Record, word: u64) -> u32
     ensures { λ m. ⌜ m ≡ maskOf (λ e. makes e r word) ⌝ }
 {
-    if record::joined(r) == word {
+    if layout::joined(r) == word {
         rule::editions(r)
     } else {
         0
@@ -81,7 +81,7 @@ pub fn write(edition: u32, r: Record) -> Written
         return Written::Refused(Refusal::ShortInstruction);
     }
     match edition::judge(edition, rule::editions(r)) {
-        Verdict::Taken => Written::Word(Esr(record::joined(r))),
+        Verdict::Taken => Written::Word(Esr(layout::joined(r))),
         Verdict::Refused(refusal) => Written::Refused(refusal),
     }
 }

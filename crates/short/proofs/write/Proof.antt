@@ -10,7 +10,7 @@ use Rattle.short_rule.specs.Edition.{isEdition}
 use Rattle.edition.specs.Judge.{judgeOf}
 use Rattle.edition.specs.declared.Verdict.{Verdict}
 use Rattle.short_record.specs.Class.{headOf}
-use Rattle.short_record.specs.Fields.{fieldsOf, recordWord}
+use Rattle.short_layout.specs.Fields.{fieldsOf, recordWord}
 use Rattle.record.specs.declared.kinds.Head.{Head}
 use Rattle.short_record.specs.declared.kinds.Record.{Record}
 use Rattle.short_rule.specs.Il.{ilRule}

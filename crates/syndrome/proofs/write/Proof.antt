@@ -10,7 +10,7 @@ use Rattle.edition.specs.Feature.{isEdition}
 use Rattle.edition.specs.Judge.{judgeOf}
 use Rattle.edition.specs.declared.Verdict.{Verdict}
 use Rattle.record.specs.Class.{headOf}
-use Rattle.record.specs.Fields.{fieldsOf, recordWord}
+use Rattle.layout.specs.Fields.{fieldsOf, recordWord}
 use Rattle.record.specs.declared.kinds.Head.{Head}
 use Rattle.record.specs.declared.kinds.Record.{Record}
 use Rattle.rule.specs.Il.{ilRule}

@@ -6,7 +6,7 @@ use mathlib.Core.Bool.{Bool, cond, _&&_}
 use Rattle.bits.specs.Layout.{fitting}
 use Rattle.edition.specs.Mask.{maskOf}
 use Rattle.record.specs.Class.{headOf}
-use Rattle.record.specs.Fields.{fieldsOf}
+use Rattle.layout.specs.Fields.{fieldsOf}
 use Rattle.record.specs.declared.kinds.Head.{Head}
 use Rattle.record.specs.declared.kinds.Record.{Record}
 use Rattle.rule.specs.Il.{ilRule}

@@ -4,7 +4,7 @@ use borrow.Author.Needs.{needs}
 use mathlib.Core.Path.{_∙_, sym}
 use mathlib.Core.Bool.{Bool, _&&_, and-true}
 use Rattle.bits.specs.Layout.{fitting}
-use Rattle.record.specs.Fields.{fieldsOf}
+use Rattle.layout.specs.Fields.{fieldsOf}
 use Rattle.rule.specs.Rule.{layoutRule}
 use Rattle.record.specs.declared.kinds.Record.{Record}
 use Rattle.bits.proofs.Arms.{at-arm}

@@ -2,7 +2,7 @@
 -- Assumes nothing.
 use mathlib.Core.Bool.{true}
 use Rattle.bits.proofs.Fields.{fitting-after}
-use Rattle.record.specs.Fields.{plainFields}
+use Rattle.layout.specs.Fields.{plainFields}
 use Rattle.rule.proofs.rules.plain.Statement.{statement}
 use Rattle.rule.proofs.rules.plain.Tie as tie
 

@@ -4,7 +4,7 @@ use borrow.Author.Needs.{needs}
 use mathlib.Core.Path.{ap₂}
 use mathlib.Core.Bool.{true, _&&_}
 use Rattle.bits.proofs.Fields.{fitting-after}
-use Rattle.record.specs.Fields.{simdFields}
+use Rattle.layout.specs.Fields.{simdFields}
 use Rattle.rule.proofs.rules.simd.Statement.{statement}
 use Rattle.rule.proofs.rules.simd.Tie as tie
 

@@ -6,7 +6,7 @@ use mathlib.Core.Bool.{Bool, cond, _&&_}
 use Rattle.bits.specs.Layout.{fitting}
 use Rattle.short_rule.specs.Edition.{maskOf}
 use Rattle.short_record.specs.Class.{headOf}
-use Rattle.short_record.specs.Fields.{fieldsOf}
+use Rattle.short_layout.specs.Fields.{fieldsOf}
 use Rattle.record.specs.declared.kinds.Head.{Head}
 use Rattle.short_record.specs.declared.kinds.Record.{Record}
 use Rattle.short_rule.specs.Il.{ilRule}

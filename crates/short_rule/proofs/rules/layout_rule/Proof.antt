@@ -4,7 +4,7 @@ use borrow.Author.Needs.{needs}
 use mathlib.Core.Path.{_∙_, sym}
 use mathlib.Core.Bool.{Bool, _&&_, and-true}
 use Rattle.bits.specs.Layout.{fitting}
-use Rattle.short_record.specs.Fields.{fieldsOf}
+use Rattle.short_layout.specs.Fields.{fieldsOf}
 use Rattle.short_rule.specs.Rule.{layoutRule}
 use Rattle.short_record.specs.declared.kinds.Record.{Record}
 use Rattle.bits.proofs.Arms.{at-arm}

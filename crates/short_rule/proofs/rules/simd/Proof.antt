@@ -4,7 +4,7 @@ use borrow.Author.Needs.{needs}
 use mathlib.Core.Path.{ap₂}
 use mathlib.Core.Bool.{true, _&&_}
 use Rattle.bits.proofs.Fields.{fitting-after}
-use Rattle.short_record.specs.Fields.{simdFields}
+use Rattle.short_layout.specs.Fields.{simdFields}
 use Rattle.short_rule.proofs.rules.simd.Statement.{statement}
 use Rattle.short_rule.proofs.rules.simd.Tie as tie
 

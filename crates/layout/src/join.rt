@@ -1,0 +1,144 @@
+// A record put together into a word, each field cut to its bits. Nothing is judged here. The kinds without a register are the short form's too.
+ghost use mathlib.Core.Path.{_≡_};
+ghost use mathlib.Core.List.{[]};
+ghost use Rattle.bits.specs.Inner.{joinedFrom};
+ghost use Rattle.layout.specs.Fields.{head, condition, plainFields, wfxFields, mcrFields, mcrrFields, ldcFields, simdFields, callFields, smcFields, instructionAbortFields, dataAbortFields, fieldsOf};
+use bits::flag;
+use bits::place;
+use record::Call;
+use record::DataAbort;
+use record::InstructionAbort;
+use record::Ldc;
+use record::Mcr;
+use record::Mcrr;
+use record::Plain;
+use record::Record;
+use record::Simd;
+use record::Smc;
+use record::Wfx;
+
+// EC and IL.
+pub fn head_of(class: u32, il: bool) -> u64
+    ensures { λ r. ⌜ r ≡ joinedFrom 0 (head class il []) ⌝ }
+{
+    place(class, 31, 26) | flag(il, 25)
+}
+
+// EC, IL, CV and COND.
+pub fn conditional(class: u32, il: bool, cv: bool, cond: u32) -> u64
+    ensures { λ r. ⌜ r ≡ joinedFrom 0 (head class il (condition cv cond [])) ⌝ }
+{
+    head_of(class, il) | flag(cv, 24) | place(cond, 23, 20)
+}
+
+pub fn plain(r: Plain) -> u64
+    ensures { λ w. ⌜ w ≡ joinedFrom 0 (plainFields r) ⌝ }
+{
+    head_of(r.class, r.il)
+}
+
+pub fn wfx(r: Wfx) -> u64
+    ensures { λ w. ⌜ w ≡ joinedFrom 0 (wfxFields r) ⌝ }
+{
+    conditional(0x01, r.il, r.cv, r.cond) | flag(r.ti, 0)
+}
+
+fn mcr(r: Mcr) -> u64
+    ensures { λ w. ⌜ w ≡ joinedFrom 0 (mcrFields r) ⌝ }
+{
+    conditional(r.class, r.il, r.cv, r.cond)
+        | place(r.opc2, 19, 17)
+        | place(r.opc1, 16, 14)
+        | place(r.crn, 13, 10)
+        | place(r.rt, 9, 5)
+        | place(r.crm, 4, 1)
+        | flag(r.direction, 0)
+}
+
+fn mcrr(r: Mcrr) -> u64
+    ensures { λ w. ⌜ w ≡ joinedFrom 0 (mcrrFields r) ⌝ }
+{
+    conditional(r.class, r.il, r.cv, r.cond)
+        | place(r.opc1, 19, 16)
+        | place(r.rt2, 14, 10)
+        | place(r.rt, 9, 5)
+        | place(r.crm, 4, 1)
+        | flag(r.direction, 0)
+}
+
+fn ldc(r: Ldc) -> u64
+    ensures { λ w. ⌜ w ≡ joinedFrom 0 (ldcFields r) ⌝ }
+{
+    conditional(0x06, r.il, r.cv, r.cond)
+        | place(r.imm8, 19, 12)
+        | place(r.rn, 9, 5)
+        | flag(r.offset, 4)
+        | place(r.am, 3, 1)
+        | flag(r.direction, 0)
+}
+
+fn simd(r: Simd) -> u64
+    ensures { λ w. ⌜ w ≡ joinedFrom 0 (simdFields r) ⌝ }
+{
+    conditional(0x07, r.il, r.cv, r.cond)
+}
+
+pub fn call(r: Call) -> u64
+    ensures { λ w. ⌜ w ≡ joinedFrom 0 (callFields r) ⌝ }
+{
+    head_of(r.class, r.il) | place(r.imm16, 15, 0)
+}
+
+pub fn smc(r: Smc) -> u64
+    ensures { λ w. ⌜ w ≡ joinedFrom 0 (smcFields r) ⌝ }
+{
+    conditional(0x13, r.il, r.cv, r.cond) | flag(r.ccknownpass, 19)
+}
+
+fn instruction_abort(r: InstructionAbort) -> u64
+    ensures { λ w. ⌜ w ≡ joinedFrom 0 (instructionAbortFields r) ⌝ }
+{
+    head_of(0x20, r.il)
+        | place(r.set, 12, 11)
+        | flag(r.fnv, 10)
+        | flag(r.ea, 9)
+        | flag(r.s1ptw, 7)
+        | place(r.code, 5, 0)
+}
+
+fn data_abort(r: DataAbort) -> u64
+    ensures { λ w. ⌜ w ≡ joinedFrom 0 (dataAbortFields r) ⌝ }
+{
+    head_of(0x24, r.il)
+        | flag(r.isv, 24)
+        | place(r.sas, 23, 22)
+        | flag(r.sse, 21)
+        | place(r.srt, 20, 16)
+        | flag(r.sf, 15)
+        | flag(r.ar, 14)
+        | place(r.set, 12, 11)
+        | flag(r.fnv, 10)
+        | flag(r.ea, 9)
+        | flag(r.cm, 8)
+        | flag(r.s1ptw, 7)
+        | flag(r.wnr, 6)
+        | place(r.code, 5, 0)
+}
+
+// The whole record. Where its fields fit, this is the word of its layout.
+pub fn joined(r: Record) -> u64
+    ensures { λ w. ⌜ w ≡ joinedFrom 0 (fieldsOf r) ⌝ }
+{
+    match r {
+        Record::Plain(fields) => plain(fields),
+        Record::Wfx(fields) => wfx(fields),
+        Record::Mcr(fields) => mcr(fields),
+        Record::Mcrr(fields) => mcrr(fields),
+        Record::Ldc(fields) => ldc(fields),
+        Record::Simd(fields) => simd(fields),
+        Record::Call(fields) => call(fields),
+        Record::Smc(fields) => smc(fields),
+        Record::InstructionAbort(fields) => instruction_abort(fields),
+        Record::DataAbort(fields) => data_abort(fields),
+    }
+}
