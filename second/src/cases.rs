@@ -30,7 +30,7 @@ impl ReadCase {
     }
 }
 
-const READS: [ReadCase; 27] = [
+const READS: [ReadCase; 31] = [
     reads(0x0200_0000, "0 0 0 1"),
     reads(0x0000_0000, "4 0 0"),
     // WFE.
@@ -62,6 +62,12 @@ const READS: [ReadCase; 27] = [
     reads_in(1, 0x9383_0014, "6 5555 8"),
     reads(0x8200_0021, "5 0 0"),
     reads(0x1_9200_0005, "2 0 0"),
+    // Request C-20: an SError interrupt's code without RAS, a reserved type, EA
+    // without a code, and a watchpoint on cache maintenance that isn't a write.
+    reads_in(0, 0xbe00_0011, "6 aaaa 8"),
+    reads(0xbe00_1011, "5 0 0"),
+    reads(0xbe00_0200, "5 0 0"),
+    reads(0xd200_0122, "5 0 0"),
     // The first line that the paper's program is given.
     reads_in(0, 0x9200_0005, "0 9 1 0 0 0 0 0 0 0 0 0 0 0 0 5"),
 ];

@@ -37,10 +37,12 @@ impl Field {
 
 /// Classes that share a layout. The fields stand in the order of a row, which
 /// shows the kind's number first, and then the class where there are several.
+/// What the layout fixes stands in every word of the kind, and in no row.
 #[derive(Debug, PartialEq, Eq)]
 pub struct Kind {
     pub number: u64,
     pub classes: &'static [u8],
+    pub fixed: u32,
     pub fields: &'static [Field],
 }
 
@@ -136,7 +138,7 @@ impl Family {
     /// Every record of the family, by its values, with its word.
     pub fn each(&self, class: u8, found: &mut impl FnMut(&[u32], u32)) {
         let mut values = vec![0; self.choices.len()];
-        self.each_from(0, u32::from(class) << 26, &mut values, found);
+        self.each_from(0, (u32::from(class) << 26) + self.kind.fixed, &mut values, found);
     }
 
     fn each_from(
@@ -181,7 +183,7 @@ impl Record {
 
     /// The word that the fields make at their bits, if class and fields fit.
     pub fn word(&self) -> Option<u32> {
-        let class = u32::from(self.own_class()?) << 26;
+        let class = (u32::from(self.own_class()?) << 26) + self.kind.fixed;
         self.values.iter().zip(self.kind.fields).try_fold(class, |word, (&value, field)| {
             (value < field.values()).then(|| word + (value << field.low))
         })

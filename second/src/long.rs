@@ -1,5 +1,5 @@
-//! The long form: ESR words, by the layout lines of document 01. Nothing here
-//! looks at a word.
+//! The long form: ESR words, by the layout lines of document 01 and, for the
+//! classes of request C-20, of source 001. Nothing here looks at a word.
 
 use crate::edition::Edition;
 use crate::form::{bit, field, Family, Field, Form, Kind};
@@ -15,13 +15,19 @@ pub const FNV: Field = bit("FnV", 10);
 pub const EA: Field = bit("EA", 9);
 pub const S1PTW: Field = bit("S1PTW", 7);
 pub const CODE: Field = field("code", 5, 0);
+const CM: Field = bit("CM", 8);
+const WNR: Field = bit("WnR", 6);
 
-static KINDS: [Kind; 10] = [
-    Kind { number: 0, classes: &[0x00, 0x0e, 0x22], fields: &[IL] },
-    Kind { number: 1, classes: &[0x01], fields: &[IL, CV, COND, bit("TI", 0)] },
+/// IFSC or DFSC of a debug exception.
+const DEBUG_EXCEPTION: u32 = 0b10_0010;
+
+static KINDS: [Kind; 14] = [
+    Kind { number: 0, classes: &[0x00, 0x0e, 0x22], fixed: 0, fields: &[IL] },
+    Kind { number: 1, classes: &[0x01], fixed: 0, fields: &[IL, CV, COND, bit("TI", 0)] },
     Kind {
         number: 2,
         classes: &[0x03, 0x05, 0x08],
+        fixed: 0,
         fields: &[
             IL,
             CV,
@@ -37,6 +43,7 @@ static KINDS: [Kind; 10] = [
     Kind {
         number: 3,
         classes: &[0x04, 0x0c],
+        fixed: 0,
         fields: &[
             IL,
             CV,
@@ -51,6 +58,7 @@ static KINDS: [Kind; 10] = [
     Kind {
         number: 4,
         classes: &[0x06],
+        fixed: 0,
         fields: &[
             IL,
             CV,
@@ -62,13 +70,14 @@ static KINDS: [Kind; 10] = [
             DIRECTION,
         ],
     },
-    Kind { number: 5, classes: &[0x07], fields: &[IL, CV, COND] },
-    Kind { number: 6, classes: &[0x11, 0x12], fields: &[IL, field("imm16", 15, 0)] },
-    Kind { number: 7, classes: &[0x13], fields: &[IL, CV, COND, bit("CCKNOWNPASS", 19)] },
-    Kind { number: 8, classes: &[0x20], fields: &[IL, SET, FNV, EA, S1PTW, CODE] },
+    Kind { number: 5, classes: &[0x07], fixed: 0, fields: &[IL, CV, COND] },
+    Kind { number: 6, classes: &[0x11, 0x12, 0x38], fixed: 0, fields: &[IL, field("imm16", 15, 0)] },
+    Kind { number: 7, classes: &[0x13], fixed: 0, fields: &[IL, CV, COND, bit("CCKNOWNPASS", 19)] },
+    Kind { number: 8, classes: &[0x20], fixed: 0, fields: &[IL, SET, FNV, EA, S1PTW, CODE] },
     Kind {
         number: 9,
         classes: &[0x24],
+        fixed: 0,
         fields: &[
             IL,
             bit("ISV", 24),
@@ -80,17 +89,32 @@ static KINDS: [Kind; 10] = [
             SET,
             FNV,
             EA,
-            bit("CM", 8),
+            CM,
             S1PTW,
-            bit("WnR", 6),
+            WNR,
             CODE,
         ],
+    },
+    Kind { number: 10, classes: &[0x30, 0x3a], fixed: DEBUG_EXCEPTION, fields: &[IL] },
+    Kind {
+        number: 11,
+        classes: &[0x32],
+        fixed: DEBUG_EXCEPTION,
+        fields: &[IL, bit("ISV", 24), bit("EX", 6)],
+    },
+    Kind { number: 12, classes: &[0x34], fixed: DEBUG_EXCEPTION, fields: &[IL, CM, WNR] },
+    Kind {
+        number: 13,
+        classes: &[0x2f],
+        fixed: 0,
+        fields: &[IL, field("AET", 12, 10), EA, field("DFSC", 5, 0)],
     },
 ];
 
 fn needs_il(class: u8, isv: bool) -> bool {
     match class {
         0x00 | 0x0e | 0x20 | 0x22 => true,
+        0x2f | 0x30 | 0x32 | 0x34 | 0x3a => true,
         0x24 => !isv,
         _ => has_no_16_bit_form(class),
     }
@@ -112,8 +136,8 @@ pub fn instructions(kind: &'static Kind, class: u8) -> Family {
     }
 }
 
-/// A 16-bit SVC has an immediate of 8 bits.
-pub fn supervisor_calls(family: &Family) -> [Family; 2] {
+/// A 16-bit SVC or BKPT has an immediate of 8 bits.
+pub fn calls_of_either_length(family: &Family) -> [Family; 2] {
     let short = family.clone().with("IL", [0]).with("imm16", 0..=255);
     [family.clone().with("IL", [1]), short]
 }
@@ -124,11 +148,15 @@ fn families(kind: &'static Kind, class: u8, edition: Edition) -> Vec<Family> {
         0x00 | 0x0e | 0x22 => vec![every.with("IL", [1])],
         0x01 | 0x03 | 0x04 | 0x05 | 0x07 | 0x08 | 0x0c => conditions(&every).into(),
         0x06 => conditions(&every).iter().flat_map(addressing_modes).collect(),
-        0x11 => supervisor_calls(&every).into(),
+        0x11 | 0x38 => calls_of_either_length(&every).into(),
         0x12 => vec![every],
         0x13 => calls_to_the_monitor(&every),
         0x20 => fault_statuses(&every.with("IL", [1]), edition, &fault_codes(edition)),
         0x24 => data_aborts(&every, edition),
+        0x30 | 0x3a => vec![every.with("IL", [1])],
+        0x32 => steps(&every.with("IL", [1])).into(),
+        0x34 => maintenance(&every.with("IL", [1])).into(),
+        0x2f => errors(&every.with("IL", [1]), edition),
         _ => vec![],
     }
 }
@@ -229,13 +257,32 @@ fn data_aborts(every: &Family, edition: Edition) -> Vec<Family> {
     families
 }
 
-/// ISV 0, where IL is 1 and the bits of the access are 0. Cache maintenance
-/// counts as a write.
+/// ISV 0, where IL is 1 and the bits of the access are 0.
 fn without_syndrome(every: &Family) -> [Family; 2] {
     let no_access = ["ISV", "SAS", "SSE", "SRT", "SF", "AR"];
     let family = no_access.iter().fold(every.clone(), |family, name| family.with(name, [0]));
-    let family = family.with("IL", [1]);
-    [family.clone().with("CM", [0]), family.with("CM", [1]).with("WnR", [1])]
+    maintenance(&family.with("IL", [1]))
+}
+
+/// Cache maintenance counts as a write.
+fn maintenance(family: &Family) -> [Family; 2] {
+    [family.clone().with("CM", [0]), family.clone().with("CM", [1]).with("WnR", [1])]
+}
+
+/// Without ISV there is no EX.
+fn steps(family: &Family) -> [Family; 2] {
+    [family.clone().with("ISV", [0]).with("EX", [0]), family.clone().with("ISV", [1])]
+}
+
+/// An uncategorized SError interrupt, and with RAS an asynchronous one, whose
+/// type is one of five.
+fn errors(family: &Family, edition: Edition) -> Vec<Family> {
+    let plain = family.clone().with("DFSC", [0]).with("AET", [0]).with("EA", [0]);
+    let asynchronous = family.clone().with("DFSC", [0b01_0001]).with("AET", [0, 1, 2, 3, 6]);
+    match edition.ras() {
+        true => vec![plain, asynchronous],
+        false => vec![plain],
+    }
 }
 
 fn code_may_have_isv(edition: Edition, code: u32) -> bool {
@@ -275,11 +322,30 @@ mod tests {
             (0x11, (1 << 16) + 256),
             (0x12, 1 << 16),
             (0x13, 1 + conditions),
+            (0x30, 1),
+            (0x32, 3),
+            (0x34, 3),
+            (0x38, (1 << 16) + 256),
+            (0x3a, 1),
         ];
         for (class, number) in expected {
             let mut seen = 0;
             LONG.records_of_class(class, &mut |_, _, _| seen += 1);
             assert_eq!(seen, number, "class {class:#x}");
+        }
+    }
+
+    /// One SError interrupt without RAS, and ten more with it.
+    #[test]
+    fn ras_has_ten_more_serror_interrupts() {
+        let mut words: HashMap<u32, EditionMask> = HashMap::new();
+        LONG.records_of_class(0x2f, &mut |_, word, editions| {
+            let known = words.entry(word).or_insert(EditionMask::NONE);
+            *known = known.joined(editions);
+        });
+        for edition in LONG.every_edition() {
+            let had = words.values().filter(|editions| editions.contains(edition)).count();
+            assert_eq!(had, if edition.ras() { 11 } else { 1 });
         }
     }
 

@@ -25,6 +25,10 @@ pub enum Record {
     Smc { il: bool, condition: Condition, ccknownpass: bool },
     InstructionAbort { il: bool, status: FaultStatus },
     DataAbort { il: bool, access: Access, cm: bool, wnr: bool, status: FaultStatus },
+    Debug { class: u8, il: bool },
+    Step { il: bool, isv: bool, ex: bool },
+    Watchpoint { il: bool, cm: bool, wnr: bool },
+    SError { il: bool, aet: u8, ea: bool, code: u8 },
 }
 
 #[derive(Clone, Copy, Debug)]
@@ -89,13 +93,26 @@ fn bit(word: u32, at: u32) -> bool {
 fn class_is_read(class: u8) -> bool {
     matches!(
         class,
-        0x00 | 0x01 | 0x03..=0x08 | 0x0c | 0x0e | 0x11..=0x13 | 0x20 | 0x22 | 0x24
+        0x00 | 0x01
+            | 0x03..=0x08
+            | 0x0c
+            | 0x0e
+            | 0x11..=0x13
+            | 0x20
+            | 0x22
+            | 0x24
+            | 0x2f
+            | 0x30
+            | 0x32
+            | 0x34
+            | 0x38
+            | 0x3a
     )
 }
 
 fn needs_il(word: u32) -> bool {
     match bits(word, 31, 26) {
-        0x00 | 0x0e | 0x20 | 0x22 => true,
+        0x00 | 0x0e | 0x20 | 0x22 | 0x2f | 0x30 | 0x32 | 0x34 | 0x3a => true,
         0x24 => !bit(word, 24),
         class => matches!(class, 0x03..=0x08 | 0x0c | 0x12 | 0x13),
     }
@@ -111,10 +128,14 @@ fn found(word: u32) -> Found {
         0x04 | 0x0c => mcrr(word, class, il),
         0x06 => ldc(word, il),
         0x07 => floating_point(word, il),
-        0x11 | 0x12 => call(word, class, il),
+        0x11 | 0x12 | 0x38 => call(word, class, il),
         0x13 => smc(word, il),
         0x20 => return instruction_abort(word, il),
-        _ => return data_abort(word, il),
+        0x24 => return data_abort(word, il),
+        0x30 | 0x3a => debug(word, 0).then_some(Record::Debug { class, il }),
+        0x32 => step(word, il),
+        0x34 => watchpoint(word, il),
+        _ => return serror(word, il),
     };
     record.map(|record| (record, ALL))
 }
@@ -198,6 +219,32 @@ fn smc(word: u32, il: bool) -> Option<Record> {
     let ccknownpass = bit(word, 19);
     let named = if ccknownpass { 0x01f8_0000 } else { 0 };
     only(word, named).then_some(Record::Smc { il, condition, ccknownpass })
+}
+
+/// Whether the fault code is a debug exception's and the ISS has no bit outside
+/// it and the named ones.
+fn debug(word: u32, named: u32) -> bool {
+    bits(word, 5, 0) == 0x22 && only(word, named | 0x3f)
+}
+
+fn step(word: u32, il: bool) -> Option<Record> {
+    let (isv, ex) = (bit(word, 24), bit(word, 6));
+    (debug(word, 0x0100_0040) && (isv || !ex)).then_some(Record::Step { il, isv, ex })
+}
+
+fn watchpoint(word: u32, il: bool) -> Option<Record> {
+    let (cm, wnr) = (bit(word, 8), bit(word, 6));
+    (debug(word, 0x0140) && (wnr || !cm)).then_some(Record::Watchpoint { il, cm, wnr })
+}
+
+fn serror(word: u32, il: bool) -> Found {
+    let (aet, ea, code) = (bits(word, 12, 10), bit(word, 9), bits(word, 5, 0));
+    let editions = match code {
+        0 if aet == 0 && !ea => ALL,
+        0x11 if aet < 4 || aet == 6 => RAS,
+        _ => return None,
+    };
+    only(word, 0x1e3f).then_some((Record::SError { il, aet, ea, code }, editions))
 }
 
 fn fault_code_editions(code: u8) -> u32 {

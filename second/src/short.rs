@@ -5,7 +5,7 @@ use crate::edition::Edition;
 use crate::form::{bit, field, Family, Field, Form, Kind};
 use crate::long::{
     addressing_modes, bit_if, calls_to_the_monitor, conditions, has_no_16_bit_form, instructions,
-    supervisor_calls, CODE, COND, CV, DIRECTION, EA, FNV, IL, S1PTW,
+    calls_of_either_length, CODE, COND, CV, DIRECTION, EA, FNV, IL, S1PTW,
 };
 
 pub static SHORT: Form = Form { kinds: &KINDS, editions: 2, needs_il, families };
@@ -15,11 +15,12 @@ const RT: Field = field("Rt", 8, 5);
 /// The kinds have the numbers of the long form. A data abort's bits 11:10 are
 /// one field: AET with code 0x11, and else FnV in its lower bit.
 static KINDS: [Kind; 10] = [
-    Kind { number: 0, classes: &[0x00, 0x0e, 0x22], fields: &[IL] },
-    Kind { number: 1, classes: &[0x01], fields: &[IL, CV, COND, bit("TI", 0)] },
+    Kind { number: 0, classes: &[0x00, 0x0e, 0x22], fixed: 0, fields: &[IL] },
+    Kind { number: 1, classes: &[0x01], fixed: 0, fields: &[IL, CV, COND, bit("TI", 0)] },
     Kind {
         number: 2,
         classes: &[0x03, 0x05, 0x08],
+        fixed: 0,
         fields: &[
             IL,
             CV,
@@ -35,6 +36,7 @@ static KINDS: [Kind; 10] = [
     Kind {
         number: 3,
         classes: &[0x04, 0x0c],
+        fixed: 0,
         fields: &[
             IL,
             CV,
@@ -49,6 +51,7 @@ static KINDS: [Kind; 10] = [
     Kind {
         number: 4,
         classes: &[0x06],
+        fixed: 0,
         fields: &[
             IL,
             CV,
@@ -63,14 +66,16 @@ static KINDS: [Kind; 10] = [
     Kind {
         number: 5,
         classes: &[0x07],
+        fixed: 0,
         fields: &[IL, CV, COND, bit("TA", 5), field("coproc", 3, 0)],
     },
-    Kind { number: 6, classes: &[0x11, 0x12], fields: &[IL, field("imm16", 15, 0)] },
-    Kind { number: 7, classes: &[0x13], fields: &[IL, CV, COND, bit("CCKNOWNPASS", 19)] },
-    Kind { number: 8, classes: &[0x20], fields: &[IL, FNV, EA, S1PTW, CODE] },
+    Kind { number: 6, classes: &[0x11, 0x12], fixed: 0, fields: &[IL, field("imm16", 15, 0)] },
+    Kind { number: 7, classes: &[0x13], fixed: 0, fields: &[IL, CV, COND, bit("CCKNOWNPASS", 19)] },
+    Kind { number: 8, classes: &[0x20], fixed: 0, fields: &[IL, FNV, EA, S1PTW, CODE] },
     Kind {
         number: 9,
         classes: &[0x24],
+        fixed: 0,
         fields: &[
             IL,
             bit("ISV", 24),
@@ -105,7 +110,7 @@ fn families(kind: &'static Kind, class: u8, edition: Edition) -> Vec<Family> {
         0x01 | 0x03 | 0x04 | 0x05 | 0x08 | 0x0c => conditions(&every).into(),
         0x06 => conditions(&every).iter().flat_map(addressing_modes).collect(),
         0x07 => conditions(&every).iter().flat_map(advanced_simd).collect(),
-        0x11 => supervisor_calls(&every).into(),
+        0x11 => calls_of_either_length(&every).into(),
         0x12 => vec![every],
         0x13 => calls_to_the_monitor(&every),
         0x20 => fault_statuses(&every.with("IL", [1]), &fault_codes(edition)),

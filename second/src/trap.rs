@@ -72,7 +72,7 @@ fn on_a_walk(record: &Record) -> bool {
 fn far_counts(record: &Record) -> bool {
     match record.get("code") {
         Some(code) => !(code == 0x10 && record.is_set("FnV")),
-        None => record.class == 0x22,
+        None => matches!(record.class, 0x22 | 0x34),
     }
 }
 
@@ -124,6 +124,18 @@ mod tests {
         assert_eq!(trap(0, 0x9200_0005, 1 << 32, 1), Err(7));
         assert_eq!(trap(0, 0x9200_0005, 1 << 32, 0), Err(8));
         assert_eq!(trap(0, 0x8a00_0000, 1 << 32, 1), Err(8));
+    }
+
+    #[test]
+    fn a_watchpoint_alone_of_the_debug_classes_reads_far() {
+        let watchpoint = trap(0, 0xd200_0022, 0x8000, u64::MAX).expect("taken");
+        assert_eq!(watchpoint.virtual_address, Some(0x8000));
+        assert_eq!(watchpoint.intermediate, Intermediate::None);
+        assert_eq!(trap(0, 0xd200_0022, 1 << 32, 0), Err(8));
+        for esr in [0xbe00_0000, 0xc200_0022, 0xca00_0022, 0xe200_0000, 0xea00_0022] {
+            let trap = trap(0, esr, u64::MAX, u64::MAX).expect("taken");
+            assert_eq!(trap.virtual_address, None);
+        }
     }
 
     #[test]

@@ -91,6 +91,7 @@ valid-sort (Sort.DataAbort x) {a} e = go (x .isv) refl e
     go : (b : Bool) → x .isv ≡ b → cond b (Access x) Nothing ≡ Access a → (Sort.DataAbort x ≡ Sort.DataAbort a) × (a .isv ≡ true)
     go true i q = let s : x ≡ a = cc in (ap Sort.DataAbort s, ap (λ (d : DataAbort). d .isv) (sym s) ∙ i)
     go false i q = absurd-answer (cc)
+valid-sort (Sort.SError x) e = absurd-answer (cc)
 
 pub only-valid : (r : Record) {a : DataAbort} → describedOf r ≡ Access a → (r ≡ Record.DataAbort a) × (a .isv ≡ true)
 only-valid r e = let s = valid-sort (sortOf r) e in (data-abort-sort r (s .0), s .1)

@@ -33,6 +33,7 @@ describedBy Sort.Plain = Nothing
 describedBy Sort.Addressed = Nothing
 describedBy (Sort.InstructionAbort r) = Nothing
 describedBy (Sort.DataAbort r) = cond (r .isv) (Access r) Nothing
+describedBy (Sort.SError r) = Nothing
 
 abbrev pub describedOf : Record → Described
 describedOf r = describedBy (sortOf r)

@@ -41,6 +41,7 @@ fn described_of(what: Record) -> Described
                 Described::Nothing
             }
         }
+        Sort::SError(_) => Described::Nothing,
     }
 }
 

@@ -9,9 +9,9 @@ use Rattle.bits.specs.Layout.{fitting, ordered}
 use Rattle.bits.specs.Inner.{joinedFrom}
 use Rattle.bits.proofs.Among.{among-each, among-all, among-other}
 use Rattle.bits.proofs.Fields.{AllBack, all-back, word-below, joined-word, flag-back}
-use Rattle.record.specs.Class.{isClass, plainClasses, mcrClasses, mcrrClasses, callClasses, headOf}
+use Rattle.record.specs.Class.{isClass, plainClasses, mcrClasses, mcrrClasses, callClasses, debugClasses, headOf}
 use Rattle.layout.specs.Fields.{plainFields, wfxFields, callFields, smcFields, fieldsOf, recordWord}
-use Rattle.record.specs.Split.{plainAt, wfxAt, mcrAt, mcrrAt, callAt, smcAt, recordOf, recordAt}
+use Rattle.record.specs.Split.{plainAt, wfxAt, mcrAt, mcrrAt, callAt, smcAt, debugAt, recordOf, recordAt}
 use Rattle.record.specs.declared.kinds.Plain.{Plain}
 use Rattle.record.specs.declared.kinds.Wfx.{Wfx}
 use Rattle.record.specs.declared.kinds.Call.{Call}
@@ -30,6 +30,10 @@ fields-ordered (Record.Call r) = tt
 fields-ordered (Record.Smc r) = tt
 fields-ordered (Record.InstructionAbort r) = tt
 fields-ordered (Record.DataAbort r) = tt
+fields-ordered (Record.Debug r) = tt
+fields-ordered (Record.Step r) = tt
+fields-ordered (Record.Watchpoint r) = tt
+fields-ordered (Record.SError r) = tt
 
 module _ (w : ℕ) where
   -- the kinds that the short form has too, at the bits of a word that holds their fields
@@ -130,7 +134,7 @@ module _ (w : ℕ) where
       })
   at-bits (Record.Call r) own b =
       ap (λ (c : ℕ). recordOf c w) (b .0)
-      ∙ among-each callClasses (λ c. recordOf c w ≡ Record.Call (callAt c w)) (refl, (refl, tt)) (r .class) own
+      ∙ among-each callClasses (λ c. recordOf c w ≡ Record.Call (callAt c w)) (refl, (refl, (refl, tt))) (r .class) own
       ∙ ap Record.Call (call-back r b)
   at-bits (Record.Smc r) own b =
       ap (λ (c : ℕ). recordOf c w) (b .0)
@@ -165,6 +169,39 @@ module _ (w : ℕ) where
         wnr = flag-back w 6 (r .wnr) (b .1 .1 .1 .1 .1 .1 .1 .1 .1 .1 .1 .1 .1 .0) i;
         code = (b .1 .1 .1 .1 .1 .1 .1 .1 .1 .1 .1 .1 .1 .1 .0) i;
       })
+  at-bits (Record.Debug r) own b =
+      ap (λ (c : ℕ). recordOf c w) (b .0)
+      ∙ among-each debugClasses (λ c. recordOf c w ≡ Record.Debug (debugAt c w)) (refl, (refl, tt)) (r .class) own
+      ∙ ap Record.Debug
+      (λ i. record {
+        class = r .class;
+        il = flag-back w 25 (r .il) (b .1 .0) i;
+      })
+  at-bits (Record.Step r) own b =
+      ap (λ (c : ℕ). recordOf c w) (b .0)
+      ∙ ap Record.Step
+      (λ i. record {
+        il = flag-back w 25 (r .il) (b .1 .0) i;
+        isv = flag-back w 24 (r .isv) (b .1 .1 .0) i;
+        ex = flag-back w 6 (r .ex) (b .1 .1 .1 .0) i;
+      })
+  at-bits (Record.Watchpoint r) own b =
+      ap (λ (c : ℕ). recordOf c w) (b .0)
+      ∙ ap Record.Watchpoint
+      (λ i. record {
+        il = flag-back w 25 (r .il) (b .1 .0) i;
+        cm = flag-back w 8 (r .cm) (b .1 .1 .0) i;
+        wnr = flag-back w 6 (r .wnr) (b .1 .1 .1 .0) i;
+      })
+  at-bits (Record.SError r) own b =
+      ap (λ (c : ℕ). recordOf c w) (b .0)
+      ∙ ap Record.SError
+      (λ i. record {
+        il = flag-back w 25 (r .il) (b .1 .0) i;
+        aet = (b .1 .1 .0) i;
+        ea = flag-back w 9 (r .ea) (b .1 .1 .1 .0) i;
+        code = (b .1 .1 .1 .1 .0) i;
+      })
 
 -- what stands at the bits of a record's word: each field's value
 word-back : (r : Record) → T (fitting (fieldsOf r)) → AllBack (recordWord r) (fieldsOf r)
@@ -195,6 +232,10 @@ module _ (w : ℕ) where
   heads-at (Record.Smc r) b = (b .0, flag-back w 25 (r .il) (b .1 .0))
   heads-at (Record.InstructionAbort r) b = (b .0, flag-back w 25 (r .il) (b .1 .0))
   heads-at (Record.DataAbort r) b = (b .0, flag-back w 25 (r .il) (b .1 .0))
+  heads-at (Record.Debug r) b = (b .0, flag-back w 25 (r .il) (b .1 .0))
+  heads-at (Record.Step r) b = (b .0, flag-back w 25 (r .il) (b .1 .0))
+  heads-at (Record.Watchpoint r) b = (b .0, flag-back w 25 (r .il) (b .1 .0))
+  heads-at (Record.SError r) b = (b .0, flag-back w 25 (r .il) (b .1 .0))
 
   -- a test of the class and ISV, which asks for ISV at class 0x24 alone, says the same of bit 24 of the word
   isv-at : (test : ℕ → Bool → Bool) → ((c : ℕ) → eqb c 0x24 ≡ false → (a b : Bool) → test c a ≡ test c b) → (r : Record) → headOf r .own ≡ true
@@ -209,6 +250,10 @@ module _ (w : ℕ) where
   isv-at test ignores (Record.Smc r) own b = ignores 0x13 refl _ _
   isv-at test ignores (Record.InstructionAbort r) own b = ignores 0x20 refl _ _
   isv-at test ignores (Record.DataAbort r) own b = ap (test 0x24) (flag-back w 24 (r .isv) (b .1 .1 .0))
+  isv-at test ignores (Record.Debug r) own b = ignores (r .class) (among-other debugClasses 0x24 tt (r .class) own) _ _
+  isv-at test ignores (Record.Step r) own b = ignores 0x32 refl _ _
+  isv-at test ignores (Record.Watchpoint r) own b = ignores 0x34 refl _ _
+  isv-at test ignores (Record.SError r) own b = ignores 0x2F refl _ _
 
 -- a test of class, ISV and IL says the same of a record and of its word's bits
 pub head-test : (test : ℕ → Bool → Bool → Bool) → ((c : ℕ) → eqb c 0x24 ≡ false → (a b : Bool) (l : Bool) → test c a l ≡ test c b l) → (r : Record)
@@ -233,6 +278,10 @@ class-known (Record.Call r) own = among-all callClasses isClass tt (r .class) ow
 class-known (Record.Smc r) own = refl
 class-known (Record.InstructionAbort r) own = refl
 class-known (Record.DataAbort r) own = refl
+class-known (Record.Debug r) own = among-all debugClasses isClass tt (r .class) own
+class-known (Record.Step r) own = refl
+class-known (Record.Watchpoint r) own = refl
+class-known (Record.SError r) own = refl
 
 pub word-class : (r : Record) → headOf r .own ≡ true → T (fitting (fieldsOf r)) → isClass (fieldOf (recordWord r) 31 26) ≡ true
 word-class r own fits = ap isClass (heads-at (recordWord r) r (word-back r fits) .0) ∙ class-known r own

@@ -1,4 +1,5 @@
--- The layout lines (01, 'Layout of the word'): where a record's class, IL and fields stand in the word. Bits that no line names are 0.
+-- The layout lines (01, 'Layout of the word'; for C-20's classes source 001): where a record's class, IL and fields stand in the word. Bits that no line names are 0: so
+-- are IDS and IESB of an SError interrupt and VNCR of a watchpoint, which need features that no edition has.
 use Prim.Native.Nat.{ℕ}
 use mathlib.Core.Bool.{Bool}
 use mathlib.Core.List.{List, [], _∷_}
@@ -13,6 +14,10 @@ use Rattle.record.specs.declared.kinds.Call.{Call}
 use Rattle.record.specs.declared.kinds.Smc.{Smc}
 use Rattle.record.specs.declared.kinds.InstructionAbort.{InstructionAbort}
 use Rattle.record.specs.declared.kinds.DataAbort.{DataAbort}
+use Rattle.record.specs.declared.kinds.Debug.{Debug}
+use Rattle.record.specs.declared.kinds.Step.{Step}
+use Rattle.record.specs.declared.kinds.Watchpoint.{Watchpoint}
+use Rattle.record.specs.declared.kinds.SError.{SError}
 use Rattle.record.specs.declared.kinds.Record.{Record}
 
 -- EC is 31:26, IL 25, and the ISS stands below
@@ -68,6 +73,22 @@ dataAbortFields r =
     ∷ at 12 11 (r .set) ∷ flagAt 10 (r .fnv) ∷ flagAt 9 (r .ea) ∷ flagAt 8 (r .cm) ∷ flagAt 7 (r .s1ptw) ∷ flagAt 6 (r .wnr)
     ∷ at 5 0 (r .code) ∷ [])
 
+-- 0x30 and 0x3A, 0x32 and 0x34: the fault code is 0x22, a debug exception, and no other
+abbrev pub debugCode : ℕ
+debugCode = 0x22
+
+abbrev pub debugFields : Debug → List Field
+debugFields r = head (r .class) (r .il) (at 5 0 debugCode ∷ [])
+
+abbrev pub stepFields : Step → List Field
+stepFields r = head 0x32 (r .il) (flagAt 24 (r .isv) ∷ flagAt 6 (r .ex) ∷ at 5 0 debugCode ∷ [])
+
+abbrev pub watchpointFields : Watchpoint → List Field
+watchpointFields r = head 0x34 (r .il) (flagAt 8 (r .cm) ∷ flagAt 6 (r .wnr) ∷ at 5 0 debugCode ∷ [])
+
+abbrev pub serrorFields : SError → List Field
+serrorFields r = head 0x2F (r .il) (at 12 10 (r .aet) ∷ flagAt 9 (r .ea) ∷ at 5 0 (r .code) ∷ [])
+
 abbrev pub fieldsOf : Record → List Field
 fieldsOf (Record.Plain r) = plainFields r
 fieldsOf (Record.Wfx r) = wfxFields r
@@ -79,6 +100,10 @@ fieldsOf (Record.Call r) = callFields r
 fieldsOf (Record.Smc r) = smcFields r
 fieldsOf (Record.InstructionAbort r) = instructionAbortFields r
 fieldsOf (Record.DataAbort r) = dataAbortFields r
+fieldsOf (Record.Debug r) = debugFields r
+fieldsOf (Record.Step r) = stepFields r
+fieldsOf (Record.Watchpoint r) = watchpointFields r
+fieldsOf (Record.SError r) = serrorFields r
 
 -- the word of a record: its class and fields at their bits, every other bit 0
 abbrev pub recordWord : Record → ℕ

@@ -2,20 +2,27 @@
 ghost use mathlib.Core.Path.{_≡_};
 ghost use mathlib.Core.List.{[]};
 ghost use Rattle.bits.specs.Inner.{joinedFrom};
-ghost use Rattle.layout.specs.Fields.{head, condition, plainFields, wfxFields, mcrFields, mcrrFields, ldcFields, simdFields, callFields, smcFields, instructionAbortFields, dataAbortFields, fieldsOf};
+ghost use Rattle.layout.specs.Fields.{head, condition, plainFields, wfxFields, mcrFields, mcrrFields, ldcFields, simdFields, callFields, smcFields, instructionAbortFields, dataAbortFields, debugFields, stepFields, watchpointFields, serrorFields, fieldsOf};
 use bits::flag;
 use bits::place;
 use record::Call;
 use record::DataAbort;
+use record::Debug;
 use record::InstructionAbort;
 use record::Ldc;
 use record::Mcr;
 use record::Mcrr;
 use record::Plain;
 use record::Record;
+use record::SError;
 use record::Simd;
 use record::Smc;
+use record::Step;
+use record::Watchpoint;
 use record::Wfx;
+
+// The fault code of a debug exception.
+const DEBUG_CODE: u32 = 0x22;
 
 // EC and IL.
 pub fn head_of(class: u32, il: bool) -> u64
@@ -125,6 +132,30 @@ fn data_abort(r: DataAbort) -> u64
         | place(r.code, 5, 0)
 }
 
+fn debug(r: Debug) -> u64
+    ensures { λ w. ⌜ w ≡ joinedFrom 0 (debugFields r) ⌝ }
+{
+    head_of(r.class, r.il) | place(DEBUG_CODE, 5, 0)
+}
+
+fn step(r: Step) -> u64
+    ensures { λ w. ⌜ w ≡ joinedFrom 0 (stepFields r) ⌝ }
+{
+    head_of(0x32, r.il) | flag(r.isv, 24) | flag(r.ex, 6) | place(DEBUG_CODE, 5, 0)
+}
+
+fn watchpoint(r: Watchpoint) -> u64
+    ensures { λ w. ⌜ w ≡ joinedFrom 0 (watchpointFields r) ⌝ }
+{
+    head_of(0x34, r.il) | flag(r.cm, 8) | flag(r.wnr, 6) | place(DEBUG_CODE, 5, 0)
+}
+
+fn serror(r: SError) -> u64
+    ensures { λ w. ⌜ w ≡ joinedFrom 0 (serrorFields r) ⌝ }
+{
+    head_of(0x2F, r.il) | place(r.aet, 12, 10) | flag(r.ea, 9) | place(r.code, 5, 0)
+}
+
 // The whole record. Where its fields fit, this is the word of its layout.
 pub fn joined(r: Record) -> u64
     ensures { λ w. ⌜ w ≡ joinedFrom 0 (fieldsOf r) ⌝ }
@@ -140,5 +171,9 @@ pub fn joined(r: Record) -> u64
         Record::Smc(fields) => smc(fields),
         Record::InstructionAbort(fields) => instruction_abort(fields),
         Record::DataAbort(fields) => data_abort(fields),
+        Record::Debug(fields) => debug(fields),
+        Record::Step(fields) => step(fields),
+        Record::Watchpoint(fields) => watchpoint(fields),
+        Record::SError(fields) => serror(fields),
     }
 }

@@ -25,3 +25,7 @@ data-abort-sort (Record.Call x) e = absurd-answer (cc)
 data-abort-sort (Record.Smc x) e = absurd-answer (cc)
 data-abort-sort (Record.InstructionAbort x) e = absurd-answer (cc)
 data-abort-sort (Record.DataAbort x) {a} e = let s : x ≡ a = cc in ap Record.DataAbort s
+data-abort-sort (Record.Debug x) e = absurd-answer (cc)
+data-abort-sort (Record.Step x) e = absurd-answer (cc)
+data-abort-sort (Record.Watchpoint x) e = absurd-answer (cc)
+data-abort-sort (Record.SError x) e = absurd-answer (cc)

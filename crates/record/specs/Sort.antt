@@ -1,5 +1,5 @@
--- What sort of exception a record tells of, as far as rules beyond its layout go by it: an abort with its fields; class 0x22, a PC alignment fault, which has
--- a virtual address; or a plain one.
+-- What sort of exception a record tells of, as far as rules beyond its layout go by it: an abort with its fields; classes 0x22 and 0x34, a PC alignment fault and a
+-- watchpoint, which have a virtual address; an SError interrupt with its fields; or a plain one.
 use mathlib.Core.Bool.{cond}
 use lib.Dec.{eqb}
 use Rattle.record.specs.declared.kinds.Record.{Record}
@@ -16,3 +16,7 @@ sortOf (Record.Call r) = Sort.Plain
 sortOf (Record.Smc r) = Sort.Plain
 sortOf (Record.InstructionAbort r) = Sort.InstructionAbort r
 sortOf (Record.DataAbort r) = Sort.DataAbort r
+sortOf (Record.Debug r) = Sort.Plain
+sortOf (Record.Step r) = Sort.Plain
+sortOf (Record.Watchpoint r) = Sort.Addressed
+sortOf (Record.SError r) = Sort.SError r

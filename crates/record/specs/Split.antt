@@ -6,7 +6,7 @@ use mathlib.Core.Bool.{cond}
 use lib.Dec.{eqb}
 use Rattle.bits.specs.Among.{among}
 use Rattle.bits.specs.Field.{bitOf, fieldOf}
-use Rattle.record.specs.Class.{mcrClasses, mcrrClasses, callClasses}
+use Rattle.record.specs.Class.{mcrClasses, mcrrClasses, callClasses, debugClasses}
 use Rattle.record.specs.declared.kinds.Plain.{Plain}
 use Rattle.record.specs.declared.kinds.Wfx.{Wfx}
 use Rattle.record.specs.declared.kinds.Mcr.{Mcr}
@@ -17,6 +17,10 @@ use Rattle.record.specs.declared.kinds.Call.{Call}
 use Rattle.record.specs.declared.kinds.Smc.{Smc}
 use Rattle.record.specs.declared.kinds.InstructionAbort.{InstructionAbort}
 use Rattle.record.specs.declared.kinds.DataAbort.{DataAbort}
+use Rattle.record.specs.declared.kinds.Debug.{Debug}
+use Rattle.record.specs.declared.kinds.Step.{Step}
+use Rattle.record.specs.declared.kinds.Watchpoint.{Watchpoint}
+use Rattle.record.specs.declared.kinds.SError.{SError}
 use Rattle.record.specs.declared.kinds.Record.{Record}
 
 abbrev pub plainAt : ℕ → ℕ → Plain
@@ -106,6 +110,18 @@ dataAbortAt w =
       code = fieldOf w 5 0;
     }
 
+abbrev pub debugAt : ℕ → ℕ → Debug
+debugAt class w = record { class = class; il = bitOf w 25 }
+
+abbrev pub stepAt : ℕ → Step
+stepAt w = record { il = bitOf w 25; isv = bitOf w 24; ex = bitOf w 6 }
+
+abbrev pub watchpointAt : ℕ → Watchpoint
+watchpointAt w = record { il = bitOf w 25; cm = bitOf w 8; wnr = bitOf w 6 }
+
+abbrev pub serrorAt : ℕ → SError
+serrorAt w = record { il = bitOf w 25; aet = fieldOf w 12 10; ea = bitOf w 9; code = fieldOf w 5 0 }
+
 -- a class with no layout reads as one without fields, which its kind lacks (`headOf r .own` is false)
 unfoldable pub recordOf : ℕ → ℕ → Record
 recordOf class w =
@@ -118,7 +134,11 @@ recordOf class w =
     (cond (eqb class 0x13) (Record.Smc (smcAt w))
     (cond (eqb class 0x20) (Record.InstructionAbort (instructionAbortAt w))
     (cond (eqb class 0x24) (Record.DataAbort (dataAbortAt w))
-    (Record.Plain (plainAt class w))))))))))
+    (cond (among debugClasses class) (Record.Debug (debugAt class w))
+    (cond (eqb class 0x32) (Record.Step (stepAt w))
+    (cond (eqb class 0x34) (Record.Watchpoint (watchpointAt w))
+    (cond (eqb class 0x2F) (Record.SError (serrorAt w))
+    (Record.Plain (plainAt class w))))))))))))))
 
 -- the class is EC, 31:26
 abbrev pub recordAt : ℕ → Record

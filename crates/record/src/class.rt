@@ -1,7 +1,7 @@
 // Which classes there are, and which each kind of record has. The kinds with several classes have them in both forms alike, but for the calls.
 ghost use mathlib.Core.Path.{_≡_};
 ghost use Rattle.bits.specs.Among.{among};
-ghost use Rattle.record.specs.Class.{isClass, plainClasses, mcrClasses, mcrrClasses, callClasses, withoutIsv, headOf};
+ghost use Rattle.record.specs.Class.{isClass, plainClasses, mcrClasses, mcrrClasses, callClasses, debugClasses, withoutIsv, headOf};
 use super::kinds::Head;
 use super::kinds::Record;
 
@@ -26,7 +26,13 @@ pub fn mcrr_class(class: u32) -> bool
 fn call_class(class: u32) -> bool
     ensures { λ r. ⌜ r ≡ among callClasses class ⌝ }
 {
-    (class == 0x11) | (class == 0x12)
+    (class == 0x11) | (class == 0x12) | (class == 0x38)
+}
+
+fn debug_class(class: u32) -> bool
+    ensures { λ r. ⌜ r ≡ among debugClasses class ⌝ }
+{
+    (class == 0x30) | (class == 0x3A)
 }
 
 // Whether the class is in the build.
@@ -49,6 +55,12 @@ pub fn is_class(class: u32) -> bool
         | (class == 0x20)
         | (class == 0x22)
         | (class == 0x24)
+        | (class == 0x2F)
+        | (class == 0x30)
+        | (class == 0x32)
+        | (class == 0x34)
+        | (class == 0x38)
+        | (class == 0x3A)
 }
 
 // The head of a record that isn't a data abort.
@@ -83,5 +95,9 @@ pub fn head(r: Record) -> Head
             il: x.il,
             isv: x.isv,
         },
+        Record::Debug(x) => without_isv(x.class, debug_class(x.class), x.il),
+        Record::Step(x) => without_isv(0x32, true, x.il),
+        Record::Watchpoint(x) => without_isv(0x34, true, x.il),
+        Record::SError(x) => without_isv(0x2F, true, x.il),
     }
 }

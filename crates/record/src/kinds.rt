@@ -64,7 +64,7 @@ pub struct Simd {
     pub cond: u32,
 }
 
-// Classes 0x11 and 0x12: an SVC or HVC.
+// Classes 0x11, 0x12 and 0x38: an SVC, an HVC or a BKPT.
 pub struct Call {
     pub class: u32,
     pub il: bool,
@@ -107,6 +107,34 @@ pub struct DataAbort {
     pub code: u32,
 }
 
+// Classes 0x30 and 0x3A: a breakpoint or a vector catch. The fault code is that of a debug exception, here and in the two kinds below, and is no field.
+pub struct Debug {
+    pub class: u32,
+    pub il: bool,
+}
+
+// Class 0x32: a software step. EX tells of a load-exclusive where ISV is 1.
+pub struct Step {
+    pub il: bool,
+    pub isv: bool,
+    pub ex: bool,
+}
+
+// Class 0x34.
+pub struct Watchpoint {
+    pub il: bool,
+    pub cm: bool,
+    pub wnr: bool,
+}
+
+// Class 0x2F: an SError interrupt. The code is DFSC.
+pub struct SError {
+    pub il: bool,
+    pub aet: u32,
+    pub ea: bool,
+    pub code: u32,
+}
+
 // A kind of record with several classes holds the class; one with a single class holds none.
 pub enum Record {
     Plain(Plain),
@@ -119,9 +147,14 @@ pub enum Record {
     Smc(Smc),
     InstructionAbort(InstructionAbort),
     DataAbort(DataAbort),
+    Debug(Debug),
+    Step(Step),
+    Watchpoint(Watchpoint),
+    SError(SError),
 }
 
-// What is asked of every record before its fields: its class, whether its kind has that class, IL, and ISV, which a data abort alone has.
+// What is asked of every record before its fields: its class, whether its kind has that class, IL, and a data abort's ISV, which IL hangs on (a software step's is a field
+// like any other).
 pub struct Head {
     pub class: u32,
     pub own: bool,
@@ -130,12 +163,13 @@ pub struct Head {
 }
 
 // What sort of exception a record tells of, as far as rules beyond its layout go by it: a plain one; one that is no abort and has a virtual address, a PC
-// alignment fault; or an abort, with its fields.
+// alignment fault or a watchpoint; an abort, with its fields; or an SError interrupt, with its fields.
 pub enum Sort {
     Plain,
     Addressed,
     InstructionAbort(InstructionAbort),
     DataAbort(DataAbort),
+    SError(SError),
 }
 
 // What the address registers tell: nothing; FAR, the virtual address; or what an abort's FnV, S1PTW and fault code say of FAR and HPFAR.

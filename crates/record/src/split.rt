@@ -1,8 +1,9 @@
 // A word taken apart by the layout of its class. Nothing is judged here. The kinds without a register are the short form's too.
 ghost use mathlib.Core.Path.{_≡_};
-ghost use Rattle.record.specs.Split.{plainAt, wfxAt, mcrAt, mcrrAt, ldcAt, simdAt, callAt, smcAt, instructionAbortAt, dataAbortAt, recordOf, recordAt};
+ghost use Rattle.record.specs.Split.{plainAt, wfxAt, mcrAt, mcrrAt, ldcAt, simdAt, callAt, smcAt, instructionAbortAt, dataAbortAt, debugAt, stepAt, watchpointAt, serrorAt, recordOf, recordAt};
 use super::kinds::Call;
 use super::kinds::DataAbort;
+use super::kinds::Debug;
 use super::kinds::Esr;
 use super::kinds::InstructionAbort;
 use super::kinds::Ldc;
@@ -10,8 +11,11 @@ use super::kinds::Mcr;
 use super::kinds::Mcrr;
 use super::kinds::Plain;
 use super::kinds::Record;
+use super::kinds::SError;
 use super::kinds::Simd;
 use super::kinds::Smc;
+use super::kinds::Step;
+use super::kinds::Watchpoint;
 use super::kinds::Wfx;
 use bits::bit;
 use bits::field32;
@@ -149,6 +153,46 @@ fn data_abort_at(word: u64) -> DataAbort
     }
 }
 
+fn debug_at(class: u32, word: u64) -> Debug
+    ensures { λ r. ⌜ r ≡ debugAt class word ⌝ }
+{
+    Debug {
+        class,
+        il: bit(word, 25),
+    }
+}
+
+fn step_at(word: u64) -> Step
+    ensures { λ r. ⌜ r ≡ stepAt word ⌝ }
+{
+    Step {
+        il: bit(word, 25),
+        isv: bit(word, 24),
+        ex: bit(word, 6),
+    }
+}
+
+fn watchpoint_at(word: u64) -> Watchpoint
+    ensures { λ r. ⌜ r ≡ watchpointAt word ⌝ }
+{
+    Watchpoint {
+        il: bit(word, 25),
+        cm: bit(word, 8),
+        wnr: bit(word, 6),
+    }
+}
+
+fn serror_at(word: u64) -> SError
+    ensures { λ r. ⌜ r ≡ serrorAt word ⌝ }
+{
+    SError {
+        il: bit(word, 25),
+        aet: field32(word, 12, 10),
+        ea: bit(word, 9),
+        code: field32(word, 5, 0),
+    }
+}
+
 // The record at a word's bits, by the layout of a class. A class with no layout reads as one without fields, which its kind lacks.
 fn record_of(class: u32, word: u64) -> Record
     ensures { λ r. ⌜ r ≡ recordOf class word ⌝ }
@@ -159,11 +203,15 @@ fn record_of(class: u32, word: u64) -> Record
         0x04 | 0x0C => Record::Mcrr(mcrr_at(class, word)),
         0x06 => Record::Ldc(ldc_at(word)),
         0x07 => Record::Simd(simd_at(word)),
-        0x11 => Record::Call(call_at(class, word)),
+        0x11 | 0x38 => Record::Call(call_at(class, word)),
         0x12 => Record::Call(call_at(class, word)),
         0x13 => Record::Smc(smc_at(word)),
         0x20 => Record::InstructionAbort(instruction_abort_at(word)),
         0x24 => Record::DataAbort(data_abort_at(word)),
+        0x30 | 0x3A => Record::Debug(debug_at(class, word)),
+        0x32 => Record::Step(step_at(word)),
+        0x34 => Record::Watchpoint(watchpoint_at(word)),
+        0x2F => Record::SError(serror_at(word)),
         _ => Record::Plain(plain_at(class, word)),
     }
 }

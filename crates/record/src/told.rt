@@ -27,10 +27,14 @@ pub fn sort(r: Record) -> Sort
         Record::Smc(_) => Sort::Plain,
         Record::InstructionAbort(x) => Sort::InstructionAbort(x),
         Record::DataAbort(x) => Sort::DataAbort(x),
+        Record::Debug(_) => Sort::Plain,
+        Record::Step(_) => Sort::Plain,
+        Record::Watchpoint(_) => Sort::Addressed,
+        Record::SError(x) => Sort::SError(x),
     }
 }
 
-// Only an abort and a PC alignment fault, class 0x22, have an address.
+// Only an abort, a PC alignment fault, class 0x22, and a watchpoint, class 0x34, have an address.
 pub fn addresses(r: Record) -> Addresses
     ensures { λ a. ⌜ a ≡ addressesOf r ⌝ }
 {
@@ -47,5 +51,6 @@ pub fn addresses(r: Record) -> Addresses
             s1ptw: x.s1ptw,
             code: x.code,
         },
+        Sort::SError(_) => Addresses::None,
     }
 }

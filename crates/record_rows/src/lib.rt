@@ -1,14 +1,18 @@
 // Records of the long form in rows: a kind, and then its fields in the order of its struct.
 use record::Call;
 use record::DataAbort;
+use record::Debug;
 use record::InstructionAbort;
 use record::Ldc;
 use record::Mcr;
 use record::Mcrr;
 use record::Plain;
 use record::Record;
+use record::SError;
 use record::Simd;
 use record::Smc;
+use record::Step;
+use record::Watchpoint;
 use record::Wfx;
 use rows::Reply;
 use rows::Row;
@@ -274,6 +278,70 @@ fn with_data_abort(reply: Reply, r: DataAbort) -> Reply {
     rows::with_words(reply, &words)
 }
 
+fn debug(row: Row) -> Given {
+    if !shaped(row, b"wf") {
+        return Given::None;
+    }
+    Given::Record(Record::Debug(Debug {
+        class: word(row, 0),
+        il: flag(row, 1),
+    }))
+}
+
+fn with_debug(reply: Reply, r: Debug) -> Reply {
+    let words = [10, r.class, r.il as u32];
+    rows::with_words(reply, &words)
+}
+
+fn step(row: Row) -> Given {
+    if !shaped(row, b"fff") {
+        return Given::None;
+    }
+    Given::Record(Record::Step(Step {
+        il: flag(row, 0),
+        isv: flag(row, 1),
+        ex: flag(row, 2),
+    }))
+}
+
+fn with_step(reply: Reply, r: Step) -> Reply {
+    let words = [11, r.il as u32, r.isv as u32, r.ex as u32];
+    rows::with_words(reply, &words)
+}
+
+fn watchpoint(row: Row) -> Given {
+    if !shaped(row, b"fff") {
+        return Given::None;
+    }
+    Given::Record(Record::Watchpoint(Watchpoint {
+        il: flag(row, 0),
+        cm: flag(row, 1),
+        wnr: flag(row, 2),
+    }))
+}
+
+fn with_watchpoint(reply: Reply, r: Watchpoint) -> Reply {
+    let words = [12, r.il as u32, r.cm as u32, r.wnr as u32];
+    rows::with_words(reply, &words)
+}
+
+fn serror(row: Row) -> Given {
+    if !shaped(row, b"fwfw") {
+        return Given::None;
+    }
+    Given::Record(Record::SError(SError {
+        il: flag(row, 0),
+        aet: word(row, 1),
+        ea: flag(row, 2),
+        code: word(row, 3),
+    }))
+}
+
+fn with_serror(reply: Reply, r: SError) -> Reply {
+    let words = [13, r.il as u32, r.aet, r.ea as u32, r.code];
+    rows::with_words(reply, &words)
+}
+
 // The record that a row is.
 pub fn from_row(row: Row) -> Given {
     let fields = rest(row, 1);
@@ -288,6 +356,10 @@ pub fn from_row(row: Row) -> Given {
         7 => smc(fields),
         8 => instruction_abort(fields),
         9 => data_abort(fields),
+        10 => debug(fields),
+        11 => step(fields),
+        12 => watchpoint(fields),
+        13 => serror(fields),
         _ => Given::None,
     }
 }
@@ -305,5 +377,9 @@ pub fn with_record(reply: Reply, r: Record) -> Reply {
         Record::Smc(fields) => with_smc(reply, fields),
         Record::InstructionAbort(fields) => with_instruction_abort(reply, fields),
         Record::DataAbort(fields) => with_data_abort(reply, fields),
+        Record::Debug(fields) => with_debug(reply, fields),
+        Record::Step(fields) => with_step(reply, fields),
+        Record::Watchpoint(fields) => with_watchpoint(reply, fields),
+        Record::SError(fields) => with_serror(reply, fields),
     }
 }

@@ -4,10 +4,11 @@ use mathlib.Core.Path.{_≡_, ap}
 use mathlib.Core.Bool.{Bool, false, _||_}
 use Prim.Native.Nat.{ℕ}
 use lib.Dec.{eqb}
+use Rattle.bits.specs.Among.{among}
 use Rattle.iss.specs.Rule.{implies}
 use Rattle.iss.proofs.Lengths.{needed-ignores-isv}
-use Rattle.rule.specs.Il.{ilRule}
+use Rattle.rule.specs.Il.{ilAlways, ilRule}
 
 -- the IL rule asks for ISV at class 0x24 alone
 pub ignores-isv : (c : ℕ) → eqb c 0x24 ≡ false → (a b l : Bool) → ilRule c a l ≡ ilRule c b l
-ignores-isv c other a b l = ap (λ (t : Bool). implies (t || eqb c 0x22) l) (needed-ignores-isv c other a b)
+ignores-isv c other a b l = ap (λ (t : Bool). implies (t || among ilAlways c) l) (needed-ignores-isv c other a b)

@@ -17,7 +17,7 @@ abbrev pub classesOf : List Record → List ℕ
 classesOf [] = []
 classesOf (r ∷ rs) = fieldOf (recordWord r) 31 26 ∷ classesOf rs
 
--- an MRC, an MRRC, an SVC or HVC, of a class
+-- an MRC, an MRRC, of a class
 mrc : ℕ → Record
 mrc c =
     Record.Mcr
@@ -54,7 +54,9 @@ samples =
       wnr = true;
       code = 5;
     }
-    ∷ []
+    ∷ Record.SError record { il = true; aet = 0; ea = false; code = 0 } ∷ Record.Debug record { class = 0x30; il = true }
+    ∷ Record.Step record { il = true; isv = true; ex = false } ∷ Record.Watchpoint record { il = true; cm = false; wnr = true }
+    ∷ Record.Call record { class = 0x38; il = true; imm16 = 0 } ∷ Record.Debug record { class = 0x3A; il = true } ∷ []
 
 -- one for each class of the build
 pub every-class : classesOf samples ≡ classes

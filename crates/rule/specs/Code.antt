@@ -1,4 +1,4 @@
--- The rules that go by the edition (01, 'Layout of the word'): fault codes, SET, and the codes of a valid instruction syndrome.
+-- The rules that go by the edition (01, 'Layout of the word'; 02, C-20): fault codes, SET, the codes of a valid instruction syndrome, and DFSC of an SError interrupt.
 use Prim.Native.Nat.{ℕ}
 use mathlib.Core.Bool.{Bool, true, not, _&&_, _||_}
 use lib.Dec.{eqb}
@@ -40,12 +40,17 @@ setRule e set code = eqb set 0 || ras e && (eqb code 0x10 && (eqb set 2 || eqb s
 abbrev pub isvRule : ℕ → Bool → ℕ → Bool
 isvRule e isv code = isvCode (ras e) isv code
 
--- only an abort's rules go by the edition
+-- DFSC of an SError interrupt: 0 in all editions, 0x11 in those with RAS
+abbrev pub errorCode : ℕ → ℕ → Bool
+errorCode e code = eqb code 0 || ras e && eqb code 0x11
+
+-- only an abort's rules and an SError interrupt's go by the edition
 abbrev pub sortRule : ℕ → Sort → Bool
 sortRule e Sort.Plain = true
 sortRule e Sort.Addressed = true
 sortRule e (Sort.InstructionAbort r) = instructionCode e (r .code) && setRule e (r .set) (r .code)
 sortRule e (Sort.DataAbort r) = dataCode e (r .code) && setRule e (r .set) (r .code) && isvRule e (r .isv) (r .code)
+sortRule e (Sort.SError r) = errorCode e (r .code)
 
 abbrev pub editionRule : ℕ → Record → Bool
 editionRule e r = sortRule e (sortOf r)

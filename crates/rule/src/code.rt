@@ -1,7 +1,7 @@
 // The rules that go by the edition, as masks of the editions that allow a record's fields.
 ghost use mathlib.Core.Path.{_≡_};
 ghost use Rattle.edition.specs.Mask.{maskOf};
-ghost use Rattle.rule.specs.Code.{instructionCode, dataCode, setRule, isvRule, editionRule};
+ghost use Rattle.rule.specs.Code.{instructionCode, dataCode, setRule, isvRule, errorCode, editionRule};
 ghost use Rattle.rule.specs.Has.{editionsOf};
 use super::il::il_rule;
 use super::rules;
@@ -200,6 +200,19 @@ fn isv_rule(isv: bool, code: u32) -> u32
     }
 }
 
+// Only RAS has an SError interrupt with more to tell than that it came.
+fn error_code(code: u32) -> u32
+    ensures { λ m. ⌜ m ≡ maskOf (λ e. errorCode e code) ⌝ }
+{
+    if code == 0 {
+        edition::all_editions()
+    } else if code == 0x11 {
+        edition::ras_editions()
+    } else {
+        0
+    }
+}
+
 // The editions whose fault codes and error types allow a record's.
 fn edition_rule(r: Record) -> u32
     ensures { λ m. ⌜ m ≡ maskOf (λ e. editionRule e r) ⌝ }
@@ -209,6 +222,7 @@ fn edition_rule(r: Record) -> u32
         Sort::Addressed => edition::all_editions(),
         Sort::InstructionAbort(x) => instruction_code(x.code) & set_rule(x.set, x.code),
         Sort::DataAbort(x) => data_code(x.code) & set_rule(x.set, x.code) & isv_rule(x.isv, x.code),
+        Sort::SError(x) => error_code(x.code),
     }
 }
 

@@ -1,10 +1,23 @@
 // Where IL must be 1: the one place that goes by the class and ISV.
 ghost use mathlib.Core.Path.{_≡_};
-ghost use Rattle.rule.specs.Il.{ilRule};
+ghost use Rattle.bits.specs.Among.{among};
+ghost use Rattle.rule.specs.Il.{ilAlways, ilRule};
+
+// A class of the long form alone that has no 16-bit instruction: a PC alignment fault, an SError interrupt, or a debug exception other than BKPT.
+fn il_always(class: u32) -> bool
+    ensures { λ yes. ⌜ yes ≡ among ilAlways class ⌝ }
+{
+    (class == 0x22)
+        | (class == 0x2F)
+        | (class == 0x30)
+        | (class == 0x32)
+        | (class == 0x34)
+        | (class == 0x3A)
+}
 
 // Whether IL is 1 where it must be.
 pub fn il_rule(class: u32, isv: bool, il: bool) -> bool
     ensures { λ yes. ⌜ yes ≡ ilRule class isv il ⌝ }
 {
-    !(iss::il_needed(class, isv) | (class == 0x22)) | il
+    !(iss::il_needed(class, isv) | il_always(class)) | il
 }

@@ -3,19 +3,23 @@
 ghost use mathlib.Core.Path.{_≡_};
 ghost use mathlib.Core.Bool.{_&&_};
 ghost use Rattle.bits.specs.Layout.{fitting};
-ghost use Rattle.layout.specs.Fields.{plainFields, wfxFields, mcrFields, mcrrFields, ldcFields, simdFields, callFields, smcFields, instructionAbortFields, dataAbortFields, fieldsOf};
-ghost use Rattle.iss.specs.Rule.{conditionRule, directionRule, immediateRule, addressingRule, passedRule, abortRule};
-ghost use Rattle.rule.specs.Rule.{noSyndromeRule, validSyndromeRule, syndromeRule, dataRule, layoutRule};
+ghost use Rattle.layout.specs.Fields.{plainFields, wfxFields, mcrFields, mcrrFields, ldcFields, simdFields, callFields, smcFields, instructionAbortFields, dataAbortFields, debugFields, stepFields, watchpointFields, serrorFields, fieldsOf};
+ghost use Rattle.iss.specs.Rule.{conditionRule, directionRule, immediateRule, addressingRule, passedRule, abortRule, maintenanceRule};
+ghost use Rattle.rule.specs.Rule.{noSyndromeRule, validSyndromeRule, syndromeRule, dataRule, stepRule, errorRule, layoutRule};
 use record::Call;
 use record::DataAbort;
+use record::Debug;
 use record::InstructionAbort;
 use record::Ldc;
 use record::Mcr;
 use record::Mcrr;
 use record::Plain;
 use record::Record;
+use record::SError;
 use record::Simd;
 use record::Smc;
+use record::Step;
+use record::Watchpoint;
 use record::Wfx;
 
 pub fn plain(r: Plain) -> bool
@@ -127,6 +131,38 @@ fn data_abort(r: DataAbort) -> bool
         & (iss::abort_rule(r.fnv, r.ea, r.s1ptw, r.code) & data_rule(r))
 }
 
+fn debug(r: Debug) -> bool
+    ensures { λ yes. ⌜ yes ≡ fitting (debugFields r) ⌝ }
+{
+    r.class < 64
+}
+
+// EX tells nothing without ISV.
+fn step(r: Step) -> bool
+    ensures { λ yes. ⌜ yes ≡ (fitting (stepFields r) && stepRule (r .isv) (r .ex)) ⌝ }
+{
+    !r.ex | r.isv
+}
+
+fn watchpoint(r: Watchpoint) -> bool
+    ensures { λ yes. ⌜ yes ≡ (fitting (watchpointFields r) && maintenanceRule (r .cm) (r .wnr)) ⌝ }
+{
+    iss::maintenance_rule(r.cm, r.wnr)
+}
+
+// An uncategorized error tells nothing more. An asynchronous one tells its type; 4, 5 and 7 are reserved.
+fn error_rule(aet: u32, ea: bool, code: u32) -> bool
+    ensures { λ yes. ⌜ yes ≡ errorRule aet ea code ⌝ }
+{
+    (code == 0) & (aet == 0) & !ea | (code == 0x11) & ((aet <= 3) | (aet == 6))
+}
+
+fn serror(r: SError) -> bool
+    ensures { λ yes. ⌜ yes ≡ (fitting (serrorFields r) && errorRule (r .aet) (r .ea) (r .code)) ⌝ }
+{
+    (r.aet < 8) & (r.code < 64) & error_rule(r.aet, r.ea, r.code)
+}
+
 // Whether a record's fields fit and agree with each other.
 pub fn layout_rule(r: Record) -> bool
     ensures { λ yes. ⌜ yes ≡ (fitting (fieldsOf r) && layoutRule r) ⌝ }
@@ -142,5 +178,9 @@ pub fn layout_rule(r: Record) -> bool
         Record::Smc(x) => smc(x),
         Record::InstructionAbort(x) => instruction_abort(x),
         Record::DataAbort(x) => data_abort(x),
+        Record::Debug(x) => debug(x),
+        Record::Step(x) => step(x),
+        Record::Watchpoint(x) => watchpoint(x),
+        Record::SError(x) => serror(x),
     }
 }

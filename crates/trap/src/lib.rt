@@ -21,7 +21,7 @@ pub struct Abort {
     pub intermediate: IntermediateAddress,
 }
 
-// An exception that is no abort and always tells its virtual address: a PC alignment fault.
+// An exception that is no abort and always tells its virtual address: a PC alignment fault or a watchpoint.
 pub struct Addressed {
     pub syndrome: Record,
     pub address: u64,

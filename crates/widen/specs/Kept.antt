@@ -40,3 +40,7 @@ longKept (Long.InstructionAbort r) = digit (r .il) ∷ digit (r .fnv) ∷ digit 
 longKept (Long.DataAbort r) =
     digit (r .il) ∷ digit (r .isv) ∷ r .sas ∷ digit (r .sse) ∷ digit (r .ar) ∷ digit (r .fnv) ∷ digit (r .ea) ∷ digit (r .cm) ∷ digit (r .s1ptw)
     ∷ digit (r .wnr) ∷ r .code ∷ []
+longKept (Long.Debug r) = []
+longKept (Long.Step r) = []
+longKept (Long.Watchpoint r) = []
+longKept (Long.SError r) = []

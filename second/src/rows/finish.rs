@@ -174,7 +174,9 @@ fn order_of_tests() -> Vec<Question> {
         record(&[6, 0x12, 1, 0x1_0000]),
         record(&[6, 0x13, 1, 0]),
     ];
-    let had = [nothing, record(&[6, 0x12, 1, 0xffff]), load(), store()];
+    // A software step with ISV 1 describes no access.
+    let step = record(&[11, 1, 1, 1]);
+    let had = [nothing, record(&[6, 0x12, 1, 0xffff]), step, load(), store()];
     let mut questions = Vec::new();
     for record in wrong.into_iter().chain(had) {
         for status in [0x10, 0x16, 0x0100_0010, 0x0040_0010] {

@@ -1,7 +1,7 @@
 //! Questions to the reader: an edition and a word.
 
 use super::aborts::{fault_codes, fault_fields, random_abort};
-use super::samples::{field_limits, random_record, samples, tied_fields, word};
+use super::samples::{errors, field_limits, random_record, samples, tied_fields, word};
 use super::{aborts, Turn};
 use crate::call::Call;
 use crate::long::LONG;
@@ -75,7 +75,7 @@ fn records_at_the_edges() -> Vec<Call> {
         let word = word(&record);
         questions.extend((0..LONG.editions).map(|edition| Call::Read { edition, word }));
     }
-    for record in fault_fields() {
+    for record in fault_fields().into_iter().chain(errors()) {
         let word = word(&record);
         questions.extend([0, 1].map(|edition| Call::Read { edition, word }));
     }

@@ -6,7 +6,7 @@ use crate::random::Random;
 
 /// At least one ordinary record of each class, as rows. Some of the aborts are
 /// had by some editions only.
-const SAMPLES: [&[u64]; 31] = [
+const SAMPLES: [&[u64]; 40] = [
     &[0, 0x00, 1],
     &[0, 0x0e, 1],
     &[0, 0x22, 1],
@@ -38,6 +38,15 @@ const SAMPLES: [&[u64]; 31] = [
     &[9, 0, 1, 1, 1, 0x1e, 0, 1, 0, 0, 0, 0, 0, 0, 0x07],
     &[9, 1, 1, 0, 0, 0xe, 0, 0, 0, 0, 1, 0, 0, 0, 0x14],
     &[9, 1, 0, 0, 0, 0, 0, 0, 2, 1, 1, 0, 0, 1, 0x10],
+    &[6, 0x38, 1, 0xbeef],
+    &[6, 0x38, 0, 0xbe],
+    &[10, 0x30, 1],
+    &[10, 0x3a, 1],
+    &[11, 1, 1, 1],
+    &[12, 1, 0, 0],
+    &[12, 1, 1, 1],
+    &[13, 1, 0, 0, 0],
+    &[13, 1, 6, 1, 0x11],
 ];
 
 pub fn record(row: &[u64]) -> Record {
@@ -97,10 +106,10 @@ pub fn fields_too_large(record: &Record) -> Vec<Record> {
 /// Immediates around 8 bits, with either IL.
 pub fn calls(form: &Form) -> Vec<Record> {
     let mut records = Vec::new();
-    for class in [0x11, 0x12] {
+    for &class in form.kinds[6].classes {
         for il in [0, 1] {
             for imm16 in [0, 1, 0xfe, 0xff, 0x100, 0x101, 0x1ff, 0x8000, 0xff00, 0xffff, 0x1_0000] {
-                records.extend(Record::from_row(form, &[6, class, il, imm16]));
+                records.extend(Record::from_row(form, &[6, class.into(), il, imm16]));
             }
         }
     }
@@ -120,6 +129,17 @@ pub fn tied_fields() -> Vec<Record> {
     let ldc = record(&[4, 1, 1, 0xe, 0x81, 0x11, 1, 0, 0]);
     records.extend(sweep(&ldc, "AM Direction CV Offset"));
     records.extend(sweep(&record(&[7, 1, 0, 0, 0]), "CCKNOWNPASS CV COND"));
+    records.extend(sweep(&record(&[11, 1, 0, 0]), "IL ISV EX"));
+    records.extend(sweep(&record(&[12, 1, 0, 0]), "IL CM WnR"));
+    records
+}
+
+/// SError interrupts, whose fields hang on DFSC and RAS: every DFSC, and with
+/// the two that there are every AET and EA.
+pub fn errors() -> Vec<Record> {
+    let mut records = sweep(&record(&[13, 1, 0, 0, 0]), "DFSC");
+    records.extend(sweep(&record(&[13, 1, 0, 0, 0]), "AET EA"));
+    records.extend(sweep(&record(&[13, 1, 0, 0, 0x11]), "AET EA"));
     records
 }
 

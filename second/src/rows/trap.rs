@@ -103,8 +103,8 @@ fn every_fault_code() -> Vec<Call> {
 /// Each bit of FAR and of HPFAR where the register counts, and the bits around
 /// the ends of its field where it counts and where it doesn't: translation
 /// faults (also on a walk), permission faults without and with S1PTW, an
-/// external abort without and with FnV, an alignment fault, PC alignment and
-/// HVC.
+/// external abort without and with FnV, an alignment fault, PC alignment, HVC, a
+/// watchpoint, a breakpoint and an SError interrupt.
 fn register_bits() -> Vec<Call> {
     let mut questions = Vec::new();
     for bit in 0..64 {
@@ -128,6 +128,9 @@ fn register_bits() -> Vec<Call> {
         0x9200_0021,
         0x8a00_0000,
         0x4a00_0001,
+        0xd200_0022,
+        0xc200_0022,
+        0xbe00_0000,
     ];
     let mut editions = Turn::over(LONG.editions);
     for esr in syndromes {

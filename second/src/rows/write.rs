@@ -3,7 +3,7 @@
 
 use super::aborts::{fault_codes, fault_fields, random_abort};
 use super::samples::{
-    calls, field_limits, fields_too_large, random_record, samples, tied_fields, with,
+    calls, errors, field_limits, fields_too_large, random_record, samples, tied_fields, with,
 };
 use super::{aborts, Turn};
 use crate::call::Call;
@@ -41,11 +41,12 @@ fn editions_that_do_not_exist() -> Vec<Call> {
 fn every_class() -> Vec<Call> {
     let mut editions = Turn::over(LONG.editions);
     let mut kinds: Vec<Record> = samples().filter(|sample| sample.kind.holds_class()).collect();
+    kinds.sort_by_key(|sample| sample.kind.number);
     kinds.dedup_by_key(|sample| sample.kind.number);
     let classes = (0..64).chain([0x40, 0x43, 0x52, 0x100, 0x8000_0003, 0xffff_ffff]);
     let mut questions = Vec::new();
     for class in classes {
-        for (sample, il) in kinds.iter().zip([class / 2 % 2, 0, 1, 0]) {
+        for (sample, il) in kinds.iter().zip([class / 2 % 2, 0, 1, 0, 1]) {
             let record = Record { class, ..with(sample, "IL", il) };
             questions.push(Call::Write { edition: editions.next(), record });
         }
@@ -70,7 +71,7 @@ fn il_before_fields() -> Vec<Call> {
 /// As in reading, and with fields that are too large.
 fn records_at_the_edges() -> Vec<Call> {
     let mut questions = Vec::new();
-    for record in fault_codes().into_iter().chain(fault_fields()) {
+    for record in fault_codes().into_iter().chain(fault_fields()).chain(errors()) {
         let write = |edition| Call::Write { edition, record: record.clone() };
         questions.extend([0, 1].map(write));
     }
@@ -103,7 +104,7 @@ fn carried() -> Vec<Call> {
     for (step, record) in (0..).zip(fault_fields().into_iter().filter(names_external_abort)) {
         carry(&record, 1 + 2 * step % (last - 1));
     }
-    for record in samples() {
+    for record in samples().chain(errors().into_iter().filter(has_aet)) {
         carry(&record, 1);
     }
     let record = samples().last().expect("a sample");
@@ -113,6 +114,10 @@ fn carried() -> Vec<Call> {
         }
     }
     questions
+}
+
+fn has_aet(record: &Record) -> bool {
+    record.get("AET") != Some(0)
 }
 
 fn names_external_abort(record: &Record) -> bool {

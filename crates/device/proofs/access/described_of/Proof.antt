@@ -32,6 +32,9 @@ enum-told-3 c = search needs
 enum-known-abort : tie.Need-enum-known-abort
 enum-known-abort c = search needs
 
+enum-told-4 : tie.Need-enum-told-4
+enum-told-4 c = search needs
+
 returns : tie.Need-returns
 returns c = of-sort (c .before .before .before .args .what) (c .before .before .sort .ensures) (c .enum-told .given .1)
 
@@ -53,6 +56,9 @@ returns-5 c =
     let abort = c .before .before .abort .given in
     told (λ (b : Bool). cond b (Access (abort .0 .0)) Nothing) (c .if1 .left) ∙ of-sort (at .before .args .what) (at .sort .ensures) (abort .1)
 
+returns-6 : tie.Need-returns-6
+returns-6 c = of-sort (c .before .before .before .args .what) (c .before .before .sort .ensures) (c .enum-told4 .given .1)
+
 pub described-of-spec : {M : Type 1} → statement M
 described-of-spec =
     tie.close
@@ -62,8 +68,10 @@ described-of-spec =
     enum-told-2
     enum-told-3
     enum-known-abort
+    enum-told-4
     returns
     returns-2
     returns-3
     returns-4
-    returns-5)
+    returns-5
+    returns-6)

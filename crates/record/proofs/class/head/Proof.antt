@@ -82,6 +82,33 @@ without-isv-requires-9 c κs = search needs
 enum-known-r-10 : tie.Need-enum-known-r-10
 enum-known-r-10 c = search needs
 
+enum-known-r-11 : tie.Need-enum-known-r-11
+enum-known-r-11 c = search needs
+
+debug-class-requires : tie.Need-debug-class-requires
+debug-class-requires c κs = search needs
+
+without-isv-requires-10 : tie.Need-without-isv-requires-10
+without-isv-requires-10 c κs = search needs
+
+enum-known-r-12 : tie.Need-enum-known-r-12
+enum-known-r-12 c = search needs
+
+without-isv-requires-11 : tie.Need-without-isv-requires-11
+without-isv-requires-11 c κs = search needs
+
+enum-known-r-13 : tie.Need-enum-known-r-13
+enum-known-r-13 c = search needs
+
+without-isv-requires-12 : tie.Need-without-isv-requires-12
+without-isv-requires-12 c κs = search needs
+
+enum-known-r-14 : tie.Need-enum-known-r-14
+enum-known-r-14 c = search needs
+
+without-isv-requires-13 : tie.Need-without-isv-requires-13
+without-isv-requires-13 c κs = search needs
+
 returns : tie.Need-returns
 returns c = at-arm headOf (with-own (c .without-isv .ensures) (c .before .plain-class .ensures)) (c .before .before .before .r .given .1)
 
@@ -112,6 +139,18 @@ returns-9 c = at-arm headOf (c .without-isv9 .ensures) (c .before .before .r9 .g
 returns-10 : tie.Need-returns-10
 returns-10 c = at-arm headOf refl (c .before .r10 .given .1)
 
+returns-11 : tie.Need-returns-11
+returns-11 c = at-arm headOf (with-own (c .without-isv10 .ensures) (c .before .debug-class .ensures)) (c .before .before .before .r11 .given .1)
+
+returns-12 : tie.Need-returns-12
+returns-12 c = at-arm headOf (c .without-isv11 .ensures) (c .before .before .r12 .given .1)
+
+returns-13 : tie.Need-returns-13
+returns-13 c = at-arm headOf (c .without-isv12 .ensures) (c .before .before .r13 .given .1)
+
+returns-14 : tie.Need-returns-14
+returns-14 c = at-arm headOf (c .without-isv13 .ensures) (c .before .before .r14 .given .1)
+
 pub head-spec : {M : Type 1} → statement M
 head-spec =
     tie.close
@@ -139,6 +178,15 @@ head-spec =
     enum-known-r-9
     without-isv-requires-9
     enum-known-r-10
+    enum-known-r-11
+    debug-class-requires
+    without-isv-requires-10
+    enum-known-r-12
+    without-isv-requires-11
+    enum-known-r-13
+    without-isv-requires-12
+    enum-known-r-14
+    without-isv-requires-13
     returns
     returns-2
     returns-3
@@ -148,4 +196,8 @@ head-spec =
     returns-7
     returns-8
     returns-9
-    returns-10)
+    returns-10
+    returns-11
+    returns-12
+    returns-13
+    returns-14)

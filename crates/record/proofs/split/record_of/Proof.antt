@@ -6,7 +6,7 @@ use mathlib.Core.List.{List, [], _∷_}
 use borrow.Author.Tests.{ne-eqb}
 use Prim.Native.Nat.{ℕ}
 use Rattle.bits.proofs.Among.{Each, OfArm, arm-each, not-of-arm}
-use Rattle.record.specs.Split.{plainAt, wfxAt, mcrAt, mcrrAt, ldcAt, simdAt, callAt, smcAt, instructionAbortAt, dataAbortAt, recordOf}
+use Rattle.record.specs.Split.{plainAt, wfxAt, mcrAt, mcrrAt, ldcAt, simdAt, callAt, smcAt, instructionAbortAt, dataAbortAt, debugAt, stepAt, watchpointAt, serrorAt, recordOf}
 use Rattle.record.specs.declared.kinds.Record.{Record}
 use Rattle.record.proofs.split.record_of.Statement.{statement}
 use Rattle.record.proofs.split.record_of.Tie as tie
@@ -45,6 +45,18 @@ instruction-abort-at-requires c κs = search needs
 data-abort-at-requires : tie.Need-data-abort-at-requires
 data-abort-at-requires c κs = search needs
 
+debug-at-requires : tie.Need-debug-at-requires
+debug-at-requires c κs = search needs
+
+step-at-requires : tie.Need-step-at-requires
+step-at-requires c κs = search needs
+
+watchpoint-at-requires : tie.Need-watchpoint-at-requires
+watchpoint-at-requires c κs = search needs
+
+serror-at-requires : tie.Need-serror-at-requires
+serror-at-requires c κs = search needs
+
 plain-at-requires : tie.Need-plain-at-requires
 plain-at-requires c κs = search needs
 
@@ -82,7 +94,7 @@ returns-6 : tie.Need-returns-6
 unfolding recordOf
 returns-6 c =
     let w = c .before .before .args .word in
-    ap Record.Call (c .call-at .ensures) ∙ at-class (λ x. Record.Call (callAt x w)) w 0x11 [] (refl, tt) (c .before .match .keys6)
+    ap Record.Call (c .call-at .ensures) ∙ at-class (λ x. Record.Call (callAt x w)) w 0x11 (0x38 ∷ []) (refl, (refl, tt)) (c .before .match .keys6)
 
 returns-7 : tie.Need-returns-7
 unfolding recordOf
@@ -111,20 +123,48 @@ returns-10 c =
 returns-11 : tie.Need-returns-11
 unfolding recordOf
 returns-11 c =
+    let w = c .before .before .args .word in
+    ap Record.Debug (c .debug-at .ensures) ∙ at-class (λ x. Record.Debug (debugAt x w)) w 0x30 (0x3A ∷ []) (refl, (refl, tt)) (c .before .match .keys11)
+
+returns-12 : tie.Need-returns-12
+unfolding recordOf
+returns-12 c =
+    let w = c .before .before .args .word in
+    ap Record.Step (c .step-at .ensures) ∙ at-class (λ x. Record.Step (stepAt w)) w 0x32 [] (refl, tt) (c .before .match .keys12)
+
+returns-13 : tie.Need-returns-13
+unfolding recordOf
+returns-13 c =
+    let w = c .before .before .args .word in
+    ap Record.Watchpoint (c .watchpoint-at .ensures) ∙ at-class (λ x. Record.Watchpoint (watchpointAt w)) w 0x34 [] (refl, tt) (c .before .match .keys13)
+
+returns-14 : tie.Need-returns-14
+unfolding recordOf
+returns-14 c =
+    let w = c .before .before .args .word in
+    ap Record.SError (c .serror-at .ensures) ∙ at-class (λ x. Record.SError (serrorAt w)) w 0x2F [] (refl, tt) (c .before .match .keys14)
+
+returns-15 : tie.Need-returns-15
+unfolding recordOf
+returns-15 c =
     let class = c .before .before .args .class in
     let n = c .before .match .rest in
     ap Record.Plain (c .plain-at .ensures)
     ∙ simp (
-      ne-eqb class 0x01 (n .0 .0 .0 .0 .0 .0 .0 .0 .0 .1),
-      not-of-arm 0x03 (0x05 ∷ 0x08 ∷ []) class (n .0 .0 .0 .0 .0 .0 .0 .0 .1),
-      not-of-arm 0x04 (0x0C ∷ []) class (n .0 .0 .0 .0 .0 .0 .0 .1),
-      ne-eqb class 0x06 (n .0 .0 .0 .0 .0 .0 .1),
-      ne-eqb class 0x07 (n .0 .0 .0 .0 .0 .1),
-      ne-eqb class 0x11 (n .0 .0 .0 .0 .1),
-      ne-eqb class 0x12 (n .0 .0 .0 .1),
-      ne-eqb class 0x13 (n .0 .0 .1),
-      ne-eqb class 0x20 (n .0 .1),
-      ne-eqb class 0x24 (n .1),
+      ne-eqb class 0x01 (n .0 .0 .0 .0 .0 .0 .0 .0 .0 .0 .0 .0 .0 .1),
+      not-of-arm 0x03 (0x05 ∷ 0x08 ∷ []) class (n .0 .0 .0 .0 .0 .0 .0 .0 .0 .0 .0 .0 .1),
+      not-of-arm 0x04 (0x0C ∷ []) class (n .0 .0 .0 .0 .0 .0 .0 .0 .0 .0 .0 .1),
+      ne-eqb class 0x06 (n .0 .0 .0 .0 .0 .0 .0 .0 .0 .0 .1),
+      ne-eqb class 0x07 (n .0 .0 .0 .0 .0 .0 .0 .0 .0 .1),
+      not-of-arm 0x11 (0x38 ∷ []) class (n .0 .0 .0 .0 .0 .0 .0 .0 .1),
+      ne-eqb class 0x12 (n .0 .0 .0 .0 .0 .0 .0 .1),
+      ne-eqb class 0x13 (n .0 .0 .0 .0 .0 .0 .1),
+      ne-eqb class 0x20 (n .0 .0 .0 .0 .0 .1),
+      ne-eqb class 0x24 (n .0 .0 .0 .0 .1),
+      not-of-arm 0x30 (0x3A ∷ []) class (n .0 .0 .0 .1),
+      ne-eqb class 0x32 (n .0 .0 .1),
+      ne-eqb class 0x34 (n .0 .1),
+      ne-eqb class 0x2F (n .1),
     )
 
 pub record-of-spec : {M : Type 1} → statement M
@@ -141,6 +181,10 @@ record-of-spec =
     smc-at-requires
     instruction-abort-at-requires
     data-abort-at-requires
+    debug-at-requires
+    step-at-requires
+    watchpoint-at-requires
+    serror-at-requires
     plain-at-requires
     returns
     returns-2
@@ -152,4 +196,8 @@ record-of-spec =
     returns-8
     returns-9
     returns-10
-    returns-11)
+    returns-11
+    returns-12
+    returns-13
+    returns-14
+    returns-15)

@@ -29,6 +29,9 @@ enum-known-x c = search needs
 enum-known-x-2 : tie.Need-enum-known-x-2
 enum-known-x-2 c = search needs
 
+enum-told-3 : tie.Need-enum-told-3
+enum-told-3 c = search needs
+
 returns : tie.Need-returns
 returns c = of-sort (c .before .before .before .args .r) (c .before .before .sort .ensures) (c .enum-told .given .1)
 
@@ -41,6 +44,9 @@ returns-3 c = of-sort (c .before .before .before .before .args .r) (c .before .b
 returns-4 : tie.Need-returns-4
 returns-4 c = of-sort (c .before .before .before .before .args .r) (c .before .before .before .sort .ensures) (c .before .x2 .given .1)
 
+returns-5 : tie.Need-returns-5
+returns-5 c = of-sort (c .before .before .before .args .r) (c .before .before .sort .ensures) (c .enum-told3 .given .1)
+
 pub addresses-spec : {M : Type 1} → statement M
 addresses-spec =
     tie.close
@@ -50,7 +56,9 @@ addresses-spec =
     enum-told-2
     enum-known-x
     enum-known-x-2
+    enum-told-3
     returns
     returns-2
     returns-3
-    returns-4)
+    returns-4
+    returns-5)

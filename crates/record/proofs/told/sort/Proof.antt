@@ -40,6 +40,18 @@ enum-known-r-2 c = search needs
 enum-known-r-3 : tie.Need-enum-known-r-3
 enum-known-r-3 c = search needs
 
+enum-told-8 : tie.Need-enum-told-8
+enum-told-8 c = search needs
+
+enum-told-9 : tie.Need-enum-told-9
+enum-told-9 c = search needs
+
+enum-told-10 : tie.Need-enum-told-10
+enum-told-10 c = search needs
+
+enum-known-r-4 : tie.Need-enum-known-r-4
+enum-known-r-4 c = search needs
+
 returns : tie.Need-returns
 returns c = search needs
 
@@ -73,6 +85,18 @@ returns-10 c = at-arm sortOf refl (c .before .r2 .given .1)
 returns-11 : tie.Need-returns-11
 returns-11 c = at-arm sortOf refl (c .before .r3 .given .1)
 
+returns-12 : tie.Need-returns-12
+returns-12 c = search needs
+
+returns-13 : tie.Need-returns-13
+returns-13 c = search needs
+
+returns-14 : tie.Need-returns-14
+returns-14 c = search needs
+
+returns-15 : tie.Need-returns-15
+returns-15 c = at-arm sortOf refl (c .before .r4 .given .1)
+
 pub sort-spec : {M : Type 1} → statement M
 sort-spec =
     tie.close
@@ -87,6 +111,10 @@ sort-spec =
     enum-told-7
     enum-known-r-2
     enum-known-r-3
+    enum-told-8
+    enum-told-9
+    enum-told-10
+    enum-known-r-4
     returns
     returns-2
     returns-3
@@ -97,4 +125,8 @@ sort-spec =
     returns-8
     returns-9
     returns-10
-    returns-11)
+    returns-11
+    returns-12
+    returns-13
+    returns-14
+    returns-15)

@@ -57,6 +57,12 @@ set-rule-requires-2 c κs = search needs
 isv-rule-requires : tie.Need-isv-rule-requires
 isv-rule-requires c κs = search needs
 
+enum-known-x-3 : tie.Need-enum-known-x-3
+enum-known-x-3 c = search needs
+
+error-code-requires : tie.Need-error-code-requires
+error-code-requires c κs = search needs
+
 returns : tie.Need-returns
 returns c =
     let at = c .before .before .before in
@@ -86,6 +92,11 @@ returns-4 c =
     (c .isv-rule .ensures)
     ∙ both-masks (λ e. dataCode e (x .0 .0 .code) && setRule e (x .0 .0 .set) (x .0 .0 .code)) (λ e. isvRule e (x .0 .0 .isv) (x .0 .0 .code)))
 
+returns-5 : tie.Need-returns-5
+returns-5 c =
+    let at = c .before .before .before .before in
+    of-sort (at .before .args .r) (at .sort .ensures) (c .before .before .x3 .given .1) (c .error-code .ensures)
+
 pub edition-rule-spec : {M : Type 1} → statement M
 edition-rule-spec =
     tie.close
@@ -102,7 +113,10 @@ edition-rule-spec =
     data-code-requires
     set-rule-requires-2
     isv-rule-requires
+    enum-known-x-3
+    error-code-requires
     returns
     returns-2
     returns-3
-    returns-4)
+    returns-4
+    returns-5)
