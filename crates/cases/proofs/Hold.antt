@@ -61,7 +61,7 @@ undefined : (s : Guest) (status pc vbar sctlr : ℕ) → Whole s → sound unmar
 unfolding entered
 undefined s status pc vbar sctlr whole is-sound is-aligned st p v sc =
     leaves s UndefinedAt
-    (record { status = ap₂ sound (whole .marks) st ∙ is-sound; vbar = ap aligned v ∙ is-aligned; fault = refl; address = refl })
+    (record { status = ap₂ sound (whole .marks) st ∙ is-sound; vbar = ap aligned v ∙ is-aligned; fault = refl; domain = refl; address = refl })
     (ap (λ (m : Marks). entryStatus m Undefined false false (s .status) (s .sctlr)) (whole .marks) ∙ ap₂ (entryStatus unmarked Undefined false false) st sc)
     (link-held s (injectionRow UndefinedAt) (s .faults) (subst (λ (n : ℕ). 22 < n) (sym (whole .registers)) (lit< tt))
     ∙ ap₂ (λ (x y : ℕ). sumOf x (signed (correctionIn (injectionRow UndefinedAt) (t32 y)))) p st)
@@ -77,7 +77,8 @@ aborted : (s : Guest) (a : Access) (status sctlr : ℕ) → Passing s a → soun
     → s .status ≡ status → s .sctlr ≡ sctlr → Leaves s (DataAbort a) (entryStatus unmarked Abort true false status sctlr) (sumOf (s .pc) (pos 8)) 0xFFFF0010
 unfolding entered
 aborted s a status sctlr p is-sound high st sc =
-    leaves s (DataAbort a) (record { status = ap₂ sound (p .whole .marks) st ∙ is-sound; vbar = p .vbar; fault = p .fault; address = p .address })
+    leaves s (DataAbort a)
+    (record { status = ap₂ sound (p .whole .marks) st ∙ is-sound; vbar = p .vbar; fault = p .fault; domain = p .domain; address = p .address })
     (ap (λ (m : Marks). entryStatus m Abort true false (s .status) (s .sctlr)) (p .whole .marks) ∙ ap₂ (entryStatus unmarked Abort true false) st sc)
     (link-held s (injectionRow (DataAbort a)) (faultsAfter (DataAbort a) (s .faults) (s .ttbcr)) (subst (λ (n : ℕ). 20 < n) (sym (p .whole .registers)) (lit< tt))
     ∙ ap (λ (c : Signed). sumOf (s .pc) (signed c)) (abort-correction a (t32 (s .status))))

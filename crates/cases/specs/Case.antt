@@ -16,7 +16,7 @@ use Rattle.guest.specs.Inject.{injected}
 use Rattle.signed.specs.Signed.{sumOf}
 use Rattle.guest.specs.Injection.{injectionRow}
 use Rattle.exception.specs.Vector.{aligned}
-use Rattle.guest.specs.Tests.{writable, addressFits}
+use Rattle.guest.specs.Tests.{writable, domainFits, addressFits}
 use Rattle.guest.specs.declared.answer.Answer.the-variants.{Accepted}
 use Rattle.guest.specs.declared.injection.Injection.{Injection}
 use Rattle.guest.specs.declared.injection.Injection.the-variants.{UndefinedAt, DataAbort}
@@ -77,11 +77,12 @@ pub record Whole (s : Guest) : Type 0 where
   pub registers : length (s .regs) ≡ 31
   pub marks : s .marks ≡ unmarked
 
--- a whole state, and a data abort whose fault and address pass in it
+-- a whole state, and a data abort whose fault, domain and address pass in it
 pub record Passing (s : Guest) (a : Access) : Type 0 where
   pub whole : Whole s
   pub vbar : aligned (s .vbar) ≡ true
   pub fault : writable (DataAbort a) (s .ttbcr) ≡ true
+  pub domain : domainFits (DataAbort a) ≡ true
   pub address : addressFits (DataAbort a) ≡ true
 
 abbrev pub Holds : Case → Type 0

@@ -25,8 +25,8 @@ store-of-3 =
       code = 5;
     }
 
--- What the paper leaves open is open here: the edition of `reads`, every part of the state that a case doesn't give, and the fault and
--- the address of a data abort.
+-- What the paper leaves open is open here: the edition of `reads`, every part of the state that a case doesn't give, and the fault,
+-- the address and the domain of a data abort.
 abbrev pub starred : List Case
 starred =
     reads 0x02000000 taken ∷ reads 0x00000000 (refused 4 0 0)

@@ -1,4 +1,4 @@
-// `inject KIND FAULT LEVEL ADDRESS WRITE STATE`: guest::inject.
+// `inject KIND FAULT LEVEL ADDRESS WRITE DOMAIN STATE`: guest::inject.
 use super::injection;
 use super::injection::Asked;
 use guest::Injected;
@@ -16,7 +16,7 @@ pub fn shown(before: Row, done: Injected) -> Reply {
 }
 
 pub fn answer(row: Row) -> Reply {
-    let before = rest(row, 5);
+    let before = rest(row, 6);
     if !is_state(before) {
         return rows::no_row();
     }

@@ -1,4 +1,4 @@
-// An injection by the first numbers of a row: kind, fault, level, address and write. What it lacks is 0.
+// An injection by the first six numbers of a row: kind, fault, level, address, write and domain. What it lacks is 0.
 use fault::Fault;
 use guest::Access;
 use guest::Fetch;
@@ -40,7 +40,7 @@ fn fault(kind: u64, level: u8) -> Given {
 }
 
 fn prefetch_abort(row: Row) -> Asked {
-    if !begins(row, b"bbbd0") {
+    if !begins(row, b"bbbd00") {
         return Asked::None;
     }
     match fault(long(row, 1), byte(row, 2)) {
@@ -53,7 +53,7 @@ fn prefetch_abort(row: Row) -> Asked {
 }
 
 fn data_abort(row: Row) -> Asked {
-    if !begins(row, b"bbbdf") {
+    if !begins(row, b"bbbdfb") {
         return Asked::None;
     }
     match fault(long(row, 1), byte(row, 2)) {
@@ -61,6 +61,7 @@ fn data_abort(row: Row) -> Asked {
             fault,
             address: long(row, 3),
             write: flag(row, 4),
+            domain: byte(row, 5),
         })),
         Given::None => Asked::None,
     }
@@ -68,7 +69,7 @@ fn data_abort(row: Row) -> Asked {
 
 // An injection that is no abort.
 fn plain(row: Row, injection: Injection) -> Asked {
-    if begins(row, b"b0000") {
+    if begins(row, b"b00000") {
         Asked::Injection(injection)
     } else {
         Asked::None

@@ -1,4 +1,4 @@
-// `lent KIND FAULT LEVEL ADDRESS WRITE STATE`: monitor::inject_in_place.
+// `lent KIND FAULT LEVEL ADDRESS WRITE DOMAIN STATE`: monitor::inject_in_place.
 ghost use mathlib.Core.Path.{_≡_};
 ghost use Rattle.guest.specs.Inject.{injected};
 use super::inject::shown;
@@ -24,7 +24,7 @@ fn inject_lent(before: Guest, what: Injection) -> Injected
 }
 
 pub fn answer(row: Row) -> Reply {
-    let before = rest(row, 5);
+    let before = rest(row, 6);
     if !is_state(before) {
         return rows::no_row();
     }

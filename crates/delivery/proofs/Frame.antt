@@ -6,7 +6,7 @@ use Prim.Native.Nat.{ℕ, _+_}
 use Rattle.bits.specs.Decide.{decide, FirstFails}
 use Rattle.bits.specs.Field.{bitOf}
 use Rattle.bits.proofs.Deciding.{decided-exactly}
-use Rattle.fault.specs.Fault.{statusWord, onCode, writeBit, column, asynchronous, codeIn, asynchronousDfsr, statusOf, dfsrOf}
+use Rattle.fault.specs.Fault.{statusWord, onCode, writeBit, domainIn, column, asynchronous, codeIn, asynchronousDfsr, statusOf, dfsrOf}
 use Rattle.exception.specs.declared.state.FaultRegisters.{FaultRegisters}
 use Rattle.exception.specs.declared.state.Guest.{Guest}
 use Rattle.guest.specs.declared.injection.Access.{Access}
@@ -32,12 +32,14 @@ decided q s r p k = (
 pub as-a-data-abort : (a : Access) → injectionRow (DataAbort a) ≡ deliveryRow Kind.Abort
 as-a-data-abort a = refl
 
--- its DFSR: 0x406 in the short format, 0x211 in the long
-pub asynchronous-words : (ttbcr : ℕ) → asynchronousDfsr ttbcr ≡ cond (bitOf ttbcr 31) 0x211 0x406
+-- its DFSR: 0x406 in the short format, 0x211 in the long, and no domain would change it
+pub asynchronous-words : (domain ttbcr : ℕ) → asynchronousDfsr domain ttbcr ≡ cond (bitOf ttbcr 31) 0x211 0x406
 unfolding dfsrOf statusOf
-asynchronous-words ttbcr = go (bitOf ttbcr 31)
+asynchronous-words domain ttbcr = go (bitOf ttbcr 31)
   where
-    go : (b : Bool) → codeIn (onCode (λ w. writeBit false + w) (onCode (λ c. statusWord c b) (column asynchronous b))) ≡ cond b 0x211 0x406
+    go : (b : Bool)
+        → codeIn (onCode (λ w. writeBit false + (domainIn asynchronous b domain + w)) (onCode (λ c. statusWord c b) (column asynchronous b)))
+        ≡ cond b 0x211 0x406
     go true = refl
     go false = refl
 

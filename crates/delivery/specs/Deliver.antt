@@ -23,9 +23,9 @@ deliveryNumbers s = needs (sound (s .marks) (s .status)) 9 ∷ needs (aligned (s
 abbrev pub masksOf : ℕ → Masks
 masksOf w = record { a = bitOf w 8; f = bitOf w 6; i = bitOf w 7 }
 
--- a virtual abort writes DFSR whole, and leaves DFAR
+-- a virtual abort writes DFSR whole, with the domain 0 (02, C-21), and leaves DFAR
 abbrev pub faultsAfter : Kind → FaultRegisters → ℕ → FaultRegisters
-faultsAfter Kind.Abort old ttbcr = record { dfsr = asynchronousDfsr ttbcr; ifsr = old .ifsr; dfar = old .dfar; ifar = old .ifar }
+faultsAfter Kind.Abort old ttbcr = record { dfsr = asynchronousDfsr 0 ttbcr; ifsr = old .ifsr; dfar = old .dfar; ifar = old .ifar }
 faultsAfter Kind.Fiq old ttbcr = old
 faultsAfter Kind.Irq old ttbcr = old
 

@@ -90,13 +90,13 @@ fn delivery_row(kind: Kind) -> Row
     }
 }
 
-// A virtual abort writes DFSR alone: it has no address.
+// A virtual abort writes DFSR alone: it has no address. The domain that it passes on is 0.
 fn faults_after(kind: Kind, old: FaultRegisters, ttbcr: u32) -> FaultRegisters
     ensures { λ r. ⌜ r ≡ faultsAfter kind old ttbcr ⌝ }
 {
     match kind {
         Kind::Abort => FaultRegisters {
-            dfsr: asynchronous_dfsr(ttbcr),
+            dfsr: asynchronous_dfsr(0, ttbcr),
             ifsr: old.ifsr,
             dfar: old.dfar,
             ifar: old.ifar,

@@ -120,6 +120,7 @@ fn aborted(state: Guest, abort: Abort, word: u32, value: u32) -> Answered
                 fault,
                 address,
                 write: data.wnr,
+                domain: 0,
             });
             if !at_card(place) {
                 injected(state, what)

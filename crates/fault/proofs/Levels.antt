@@ -9,8 +9,7 @@ use Rattle.fault.specs.declared.Fault.{Fault}
 use Rattle.fault.specs.declared.Fault.the-variants.{External, Translation, AccessFlag, Permission, Alignment}
 use Rattle.fault.specs.declared.Encoding.{Encoding}
 use Rattle.fault.specs.declared.Encoding.the-variants.{Code, Unwritable}
-use Rattle.bits.specs.Field.{bitOf}
-use Rattle.fault.specs.Fault.{byLevel, faultRow, column, statusWord, onCode, statusOf, isAlignment, ifsrWord, writeBit, dfsrOf, dfsrWord, isCode}
+use Rattle.fault.specs.Fault.{byLevel, faultRow, isLong, column, statusWord, onCode, statusOf, isAlignment, ifsrWord, writeBit, domainIn, dfsrOf, dfsrWord, isCode}
 
 -- the level is one that the format has
 abbrev pub hasLevel : Bool → ℕ → Bool
@@ -63,19 +62,21 @@ still : (f : ℕ → ℕ) (e : Encoding) → isCode (onCode f e) ≡ isCode e
 still f (Code c) = refl
 still f Unwritable = refl
 
-status-written : (f : Fault) (t : ℕ) → isCode (statusOf (faultRow f) t) ≡ hasCode (bitOf t 31) f
+status-written : (f : Fault) (t : ℕ) → isCode (statusOf (faultRow f) t) ≡ hasCode (isLong t) f
 unfolding statusOf
-status-written f t = still (λ c. statusWord c (bitOf t 31)) (column (faultRow f) (bitOf t 31)) ∙ coded f (bitOf t 31)
+status-written f t = still (λ c. statusWord c (isLong t)) (column (faultRow f) (isLong t)) ∙ coded f (isLong t)
 
 -- a fault for data only is not written
 but : (b : Bool) (e : Encoding) → isCode (cond b Unwritable e) ≡ (not b && isCode e)
 but true e = refl
 but false e = refl
 
-pub fetch-writable : (f : Fault) (t : ℕ) → isCode (ifsrWord f t) ≡ (not (isAlignment f) && hasCode (bitOf t 31) f)
+pub fetch-writable : (f : Fault) (t : ℕ) → isCode (ifsrWord f t) ≡ (not (isAlignment f) && hasCode (isLong t) f)
 fetch-writable f t =
     but (isAlignment f) (statusOf (faultRow f) t) ∙ ap (λ (b : Bool). not (isAlignment f) && b) (status-written f t)
 
-pub access-writable : (f : Fault) (write : Bool) (t : ℕ) → isCode (dfsrWord f write t) ≡ hasCode (bitOf t 31) f
+-- whatever the domain: 11 doesn't look at it
+pub access-writable : (f : Fault) (write : Bool) (domain t : ℕ) → isCode (dfsrWord f write domain t) ≡ hasCode (isLong t) f
 unfolding dfsrOf
-access-writable f write t = still (λ w. writeBit write + w) (statusOf (faultRow f) t) ∙ status-written f t
+access-writable f write domain t =
+    still (λ w. writeBit write + (domainIn (faultRow f) (isLong t) domain + w)) (statusOf (faultRow f) t) ∙ status-written f t

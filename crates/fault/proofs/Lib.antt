@@ -1,2 +1,3 @@
 -- The laws of the fault status words.
 pub mod Levels
+pub mod Domains

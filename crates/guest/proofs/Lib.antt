@@ -4,3 +4,4 @@ pub mod Answers
 pub mod Vectors
 pub mod Again
 pub mod Unmarked
+pub mod Domain

@@ -14,13 +14,13 @@ use Rattle.exception.specs.declared.state.Guest.{Guest}
 use Rattle.exception.specs.Vector.{aligned}
 use Rattle.exception.specs.Entry.{enteredWith, entered}
 use Rattle.guest.specs.declared.answer.Answer.{Answer}
-use Rattle.guest.specs.declared.answer.Answer.the-variants.{Accepted, UnsoundStatus, UnalignedVbar, UnwritableFault, WideAddress}
+use Rattle.guest.specs.declared.answer.Answer.the-variants.{Accepted, UnsoundStatus, UnalignedVbar, UnwritableFault, WideAddress, WideDomain}
 use Rattle.guest.specs.declared.injection.Injection.{Injection}
 use Rattle.guest.specs.declared.injection.Injection.the-variants.{UndefinedAt, UndefinedAfter, SupervisorCall, PrefetchAbort, DataAbort}
 use Rattle.guest.specs.declared.injector.Injected.{Injected}
 use Rattle.guest.specs.Answer.{answerNumber}
 use Rattle.guest.specs.Injection.{injectionRow}
-use Rattle.guest.specs.Tests.{writable, addressFits}
+use Rattle.guest.specs.Tests.{writable, domainFits, addressFits}
 use Rattle.guest.specs.Inject.{faultsAfter, guestAfter, injectionAnswer, resulting, injected}
 use Rattle.guest.specs.Base.{baseInjected}
 
@@ -49,6 +49,7 @@ module _ (s : Guest) (i : Injection) where
       (needs passes UnsoundStatus
       ∷ needs (aligned (s .vbar)) UnalignedVbar
       ∷ needs (writable i (s .ttbcr)) UnwritableFault
+      ∷ needs (domainFits i) WideDomain
       ∷ needs (addressFits i) WideAddress
       ∷ [])
       Accepted

@@ -1,8 +1,8 @@
--- The number, mask and count of each answer (01, 'Numbers a call may answer'): only refusal 6 has a mask and a count, and no injection gives it.
+-- The number, mask and count of each answer (01, 'Numbers a call may answer'; 02, C-21: 20): only refusal 6 has a mask and a count, and no injection gives it.
 use Prim.Native.Nat.{ℕ}
 use mathlib.Core.List.{List, [], _∷_}
 use Rattle.guest.specs.declared.answer.Answer.{Answer}
-use Rattle.guest.specs.declared.answer.Answer.the-variants.{Accepted, UnsoundStatus, UnalignedVbar, UnwritableFault, WideAddress}
+use Rattle.guest.specs.declared.answer.Answer.the-variants.{Accepted, UnsoundStatus, UnalignedVbar, UnwritableFault, WideAddress, WideDomain}
 
 abbrev pub answerNumber : Answer → ℕ
 answerNumber Accepted = 0
@@ -10,6 +10,7 @@ answerNumber UnsoundStatus = 9
 answerNumber UnalignedVbar = 10
 answerNumber UnwritableFault = 11
 answerNumber WideAddress = 12
+answerNumber WideDomain = 20
 
 abbrev pub answerMask : Answer → ℕ
 answerMask a = 0
@@ -19,4 +20,4 @@ answerCount a = 0
 
 -- what an injection may answer
 abbrev pub injectionList : List ℕ
-injectionList = 0 ∷ 9 ∷ 10 ∷ 11 ∷ 12 ∷ []
+injectionList = 0 ∷ 9 ∷ 10 ∷ 11 ∷ 20 ∷ 12 ∷ []

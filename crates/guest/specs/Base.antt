@@ -7,11 +7,11 @@ use Rattle.exception.specs.declared.state.Guest.{Guest}
 use Rattle.exception.specs.Vector.{aligned}
 use Rattle.exception.specs.Entry.{enteredWith}
 use Rattle.guest.specs.declared.answer.Answer.{Answer}
-use Rattle.guest.specs.declared.answer.Answer.the-variants.{Accepted, UnsoundStatus, UnalignedVbar, UnwritableFault, WideAddress}
+use Rattle.guest.specs.declared.answer.Answer.the-variants.{Accepted, UnsoundStatus, UnalignedVbar, UnwritableFault, WideAddress, WideDomain}
 use Rattle.guest.specs.declared.injection.Injection.{Injection}
 use Rattle.guest.specs.declared.injector.Injected.{Injected}
 use Rattle.guest.specs.Injection.{injectionRow}
-use Rattle.guest.specs.Tests.{writable, addressFits}
+use Rattle.guest.specs.Tests.{writable, domainFits, addressFits}
 use Rattle.guest.specs.Inject.{faultsAfter, resulting}
 
 abbrev pub baseTests : Guest → Injection → List (Test Answer)
@@ -19,6 +19,7 @@ baseTests s i =
     needs (baseSound (s .status)) UnsoundStatus
     ∷ needs (aligned (s .vbar)) UnalignedVbar
     ∷ needs (writable i (s .ttbcr)) UnwritableFault
+    ∷ needs (domainFits i) WideDomain
     ∷ needs (addressFits i) WideAddress
     ∷ []
 

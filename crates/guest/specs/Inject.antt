@@ -3,8 +3,6 @@ use Prim.Native.Nat.{ℕ}
 use mathlib.Core.Bool.{cond}
 use lib.Dec.{eqb}
 use Rattle.bits.specs.Decide.{decide}
-use Rattle.fault.specs.declared.Encoding.{Encoding}
-use Rattle.fault.specs.declared.Encoding.the-variants.{Code, Unwritable}
 use Rattle.fault.specs.Fault.{ifsrWord, dfsrWord, codeIn}
 use Rattle.exception.specs.declared.state.FaultRegisters.{FaultRegisters}
 use Rattle.exception.specs.declared.state.Guest.{Guest}
@@ -31,7 +29,7 @@ faultsAfter UndefinedAt old ttbcr = old
 faultsAfter UndefinedAfter old ttbcr = old
 faultsAfter SupervisorCall old ttbcr = old
 faultsAfter (PrefetchAbort f) old ttbcr = fetchWrites old (codeIn (ifsrWord (f .fault) ttbcr)) (f .address)
-faultsAfter (DataAbort a) old ttbcr = accessWrites old (codeIn (dfsrWord (a .fault) (a .write) ttbcr)) (a .address)
+faultsAfter (DataAbort a) old ttbcr = accessWrites old (codeIn (dfsrWord (a .fault) (a .write) (a .domain) ttbcr)) (a .address)
 
 -- the state after an injection that is taken
 abbrev pub guestAfter : Guest → Injection → Guest

@@ -12,6 +12,8 @@ pub enum Answer {
     UnwritableFault,
     // The fault's address has bits 63:32 set.
     WideAddress,
+    // The domain is above 15.
+    WideDomain,
 }
 
 pub fn number(answer: Answer) -> u32
@@ -23,5 +25,6 @@ pub fn number(answer: Answer) -> u32
         Answer::UnalignedVbar => 10,
         Answer::UnwritableFault => 11,
         Answer::WideAddress => 12,
+        Answer::WideDomain => 20,
     }
 }

@@ -12,11 +12,12 @@ pub struct Fetch {
     pub address: u64,
 }
 
-// The data access that a data abort reports.
+// The data access that a data abort reports. The domain is told where DFSR has one, and may be any number: above 15 is refused.
 pub struct Access {
     pub fault: Fault,
     pub address: u64,
     pub write: bool,
+    pub domain: u8,
 }
 
 pub enum Injection {

@@ -38,6 +38,10 @@ pub fn inject(state: Guest, what: Injection) -> Injected
             answer: Answer::UnwritableFault,
             state,
         },
+        Report::NoDomain => Injected {
+            answer: Answer::WideDomain,
+            state,
+        },
         Report::NoAddress => Injected {
             answer: Answer::WideAddress,
             state,

@@ -5,15 +5,17 @@ use crate::injection::Access;
 use crate::injection::Fetch;
 use crate::injection::Injection;
 use exception::FaultRegisters;
-use fault::Encoding;
+use fault::code_in;
 use fault::dfsr_word;
 use fault::ifsr_word;
+use fault::is_code;
 
 pub(crate) enum Report {
     // The fault registers after the injection.
     Registers(FaultRegisters),
-    // The fault, or else its address, can't be written.
+    // The fault, or else its domain, or else its address can't be written.
     NoStatus,
+    NoDomain,
     NoAddress,
 }
 
@@ -21,42 +23,41 @@ fn fetch_report(fetch: Fetch, old: FaultRegisters, ttbcr: u32) -> Report
     ensures { λ r. ⌜ r ≡ fetchReport fetch old ttbcr ⌝ }
 {
     let fault = fetch.fault;
-    match ifsr_word(fault, ttbcr) {
-        Encoding::Unwritable => Report::NoStatus,
-        Encoding::Code(status) => {
-            if fetch.address < 0x1_0000_0000 {
-                Report::Registers(FaultRegisters {
-                    dfsr: old.dfsr,
-                    ifsr: status,
-                    dfar: old.dfar,
-                    ifar: fetch.address as u32,
-                })
-            } else {
-                Report::NoAddress
-            }
-        }
+    let ifsr = ifsr_word(fault, ttbcr);
+    if !is_code(ifsr) {
+        return Report::NoStatus;
     }
+    if fetch.address >= 0x1_0000_0000 {
+        return Report::NoAddress;
+    }
+    Report::Registers(FaultRegisters {
+        dfsr: old.dfsr,
+        ifsr: code_in(ifsr),
+        dfar: old.dfar,
+        ifar: fetch.address as u32,
+    })
 }
 
 fn access_report(access: Access, old: FaultRegisters, ttbcr: u32) -> Report
     ensures { λ r. ⌜ r ≡ accessReport access old ttbcr ⌝ }
 {
     let fault = access.fault;
-    match dfsr_word(fault, access.write, ttbcr) {
-        Encoding::Unwritable => Report::NoStatus,
-        Encoding::Code(status) => {
-            if access.address < 0x1_0000_0000 {
-                Report::Registers(FaultRegisters {
-                    dfsr: status,
-                    ifsr: old.ifsr,
-                    dfar: access.address as u32,
-                    ifar: old.ifar,
-                })
-            } else {
-                Report::NoAddress
-            }
-        }
+    let dfsr = dfsr_word(fault, access.write, access.domain, ttbcr);
+    if !is_code(dfsr) {
+        return Report::NoStatus;
     }
+    if access.domain > 15 {
+        return Report::NoDomain;
+    }
+    if access.address >= 0x1_0000_0000 {
+        return Report::NoAddress;
+    }
+    Report::Registers(FaultRegisters {
+        dfsr: code_in(dfsr),
+        ifsr: old.ifsr,
+        dfar: access.address as u32,
+        ifar: old.ifar,
+    })
 }
 
 pub(crate) fn report_of(what: Injection, old: FaultRegisters, ttbcr: u32) -> Report

@@ -6,19 +6,18 @@ use borrow.Author.Needs.{needs}
 use Rattle.fault.specs.declared.Row.{Row}
 use Rattle.fault.specs.declared.Encoding.{Encoding}
 use Rattle.fault.specs.declared.Encoding.the-variants.{Code}
-use Rattle.bits.specs.Field.{bitOf}
-use Rattle.fault.specs.Fault.{column, statusWord, onCode, statusOf}
+use Rattle.fault.specs.Fault.{isLong, column, statusWord, onCode, statusOf}
 use Rattle.fault.proofs.status_of.Statement.{statement}
 use Rattle.fault.proofs.status_of.Tie as tie
 
 -- the code x that was found, put in its place by the test's answer b
-placed : (row : Row) (t : ℕ) {b : Bool} {e x : Encoding} → b ≡ bitOf t 31 → e ≡ column row b → e ≡ x → onCode (λ c. statusWord c b) x ≡ statusOf row t
+placed : (row : Row) (t : ℕ) {b : Bool} {e x : Encoding} → b ≡ isLong t → e ≡ column row b → e ≡ x → onCode (λ c. statusWord c b) x ≡ statusOf row t
 unfolding statusOf
 placed row t {b} p q d =
     ap (onCode (λ c. statusWord c b)) (sym d ∙ q) ∙ ap (λ (b : Bool). onCode (λ c. statusWord c b) (column row b)) p
 
-bit-requires : tie.Need-bit-requires
-bit-requires c κs = search needs
+is-long-requires : tie.Need-is-long-requires
+is-long-requires c κs = search needs
 
 column-requires : tie.Need-column-requires
 column-requires c κs = search needs
@@ -36,20 +35,20 @@ returns : tie.Need-returns
 returns c =
     let start = c .before .before .before .before .before .before in
     ap Code (c .status-word .ensures)
-    ∙ placed (start .args .row) (start .args .ttbcr) (c .before .before .before .before .before .bit .ensures)
+    ∙ placed (start .args .row) (start .args .ttbcr) (c .before .before .before .before .before .is-long .ensures)
     (c .before .before .before .before .column .ensures) (c .before .before .code .given .1)
 
 returns-2 : tie.Need-returns-2
 returns-2 c =
     let start = c .before .before .before .before in
-    placed (start .args .row) (start .args .ttbcr) (c .before .before .before .bit .ensures)
+    placed (start .args .row) (start .args .ttbcr) (c .before .before .before .is-long .ensures)
     (c .before .before .column .ensures) (c .enum-told .given .1)
 
 pub status-of-spec : {M : Type 1} → statement M
 status-of-spec =
     tie.close
     (tie.spec
-    bit-requires
+    is-long-requires
     column-requires
     enum-known-code
     status-word-requires

@@ -76,6 +76,9 @@ enum-told c = search needs
 enum-told-2 : tie.Need-enum-told-2
 enum-told-2 c = search needs
 
+enum-told-3 : tie.Need-enum-told-3
+enum-told-3 c = search needs
+
 enum-known-faults : tie.Need-enum-known-faults
 enum-known-faults c = search needs
 
@@ -92,7 +95,10 @@ returns-4 : tie.Need-returns-4
 returns-4 c = promised _ _ (settled (c .before .before) (c .enum-told2 .given .1))
 
 returns-5 : tie.Need-returns-5
-returns-5 c =
+returns-5 c = promised _ _ (settled (c .before .before) (c .enum-told3 .given .1))
+
+returns-6 : tie.Need-returns-6
+returns-6 c =
     let past = c .before .before .before .before .before in
     let e = c .before .before .before .faults .given .1 in
     let start = past .before .before .before .before .before .before .before in
@@ -111,9 +117,11 @@ inject-spec =
     report-of-requires
     enum-told
     enum-told-2
+    enum-told-3
     enum-known-faults
     injection-row-requires
     enter-requires
     returns-3
     returns-4
-    returns-5)
+    returns-5
+    returns-6)
