@@ -23,6 +23,13 @@ pub fn number() -> u32 {
     joined(four[0], four[1], four[2], four[3])
 }
 
+// A number of two bytes, the lowest first.
+fn half() -> u16 {
+    let low = letter();
+    let high = letter();
+    low as u16 + 256 * (high as u16)
+}
+
 fn both(low: u32, high: u32) -> u64 {
     low as u64 + 4294967296 * (high as u64)
 }
@@ -59,7 +66,24 @@ fn fill(space: &mut [u64], given: usize) {
     }
 }
 
-// The same for words of eight bytes.
+fn fill_halves(space: &mut [u16], given: usize) {
+    let n = least(given, space.len());
+    let mut i = 0;
+    while i < n {
+        space[i] = half();
+        i += 1;
+    }
+}
+
+// The same for numbers of two bytes.
+pub fn halves(space: &mut [u16]) -> usize {
+    let length = number() as usize;
+    let given = number() as usize;
+    fill_halves(space, given);
+    length
+}
+
+// And for words of eight.
 pub fn words(space: &mut [u64]) -> usize {
     let length = number() as usize;
     let given = number() as usize;
@@ -69,6 +93,14 @@ pub fn words(space: &mut [u64]) -> usize {
 
 // The first n of a buffer, or all of it where it has fewer.
 pub fn first_bytes(space: &[u8], n: usize) -> &[u8] {
+    if n <= space.len() {
+        &space[0..n]
+    } else {
+        space
+    }
+}
+
+pub fn first_halves(space: &[u16], n: usize) -> &[u16] {
     if n <= space.len() {
         &space[0..n]
     } else {

@@ -11,7 +11,7 @@ pub fn write<'a, 'b>(
     syndromes: &'a [u64],
     fars: &'a [u64],
     hpfars: &'a [u64],
-    injections: &'a [u8],
+    injections: &'a [u16],
     out: &'b mut [u8],
 ) -> Written
     ensures { λ a. ⌜ Writing record { editions = now (editions .entry); syndromes = now (syndromes .entry); fars = now (fars .entry); hpfars = now (hpfars .entry); injections = now (injections .entry) } (now (out .entry)) (now (out .exit)) a ⌝ }

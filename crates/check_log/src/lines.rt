@@ -47,9 +47,10 @@ fn entry_text(out: &mut [u8], at: usize, entry: Entry) -> usize {
             let first = log_text::hex_field(out, word, far.0);
             log_text::hex_field(out, first, hpfar.0)
         }
-        Entry::Injection(injection) => {
+        Entry::Injection { injection, domain } => {
             let word = text::append(out, at, b" injection");
-            log_text::decimal_field(out, word, injection as u64)
+            let first = log_text::decimal_field(out, word, injection as u64);
+            log_text::decimal_field(out, first, domain as u64)
         }
         Entry::None => text::append(out, at, b" none"),
     }

@@ -7,8 +7,10 @@ mod input;
 mod labelled;
 mod lines;
 
-// Room for more bytes and more words of a kind than a log may have.
+// Room for more bytes, more injections and more words of a kind than a log may have.
 const BYTES: usize = 70000;
+
+const HALVES: usize = 33000;
 
 const WORDS: usize = 8200;
 
@@ -48,13 +50,13 @@ fn write_question() {
     let mut syndromes = [0u64; WORDS];
     let mut fars = [0u64; WORDS];
     let mut hpfars = [0u64; WORDS];
-    let mut injections = [0u8; BYTES];
+    let mut injections = [0u16; HALVES];
     let mut buffer = [UNWRITTEN; BYTES];
     let e = input::bytes(&mut editions);
     let s = input::words(&mut syndromes);
     let f = input::words(&mut fars);
     let h = input::words(&mut hpfars);
-    let i = input::bytes(&mut injections);
+    let i = input::halves(&mut injections);
     let room = input::bytes(&mut buffer);
     let out = input::front(&mut buffer, room);
     let answer = labelled::write(
@@ -62,7 +64,7 @@ fn write_question() {
         input::first_words(&syndromes, s),
         input::first_words(&fars, f),
         input::first_words(&hpfars, h),
-        input::first_bytes(&injections, i),
+        input::first_halves(&injections, i),
         out,
     );
     lines::written(answer, out);

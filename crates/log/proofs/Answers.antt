@@ -14,13 +14,13 @@ use Rattle.log.specs.Section.{wholeAfter}
 use Rattle.log.specs.Log.{goneThrough}
 use Rattle.log.specs.Answer.{numberOf, sectionIn, goneIn, testsOf, readTests, readNumbers, readSections, readOf, Reading}
 use Rattle.log.specs.declared.answer.Read.{Read}
-use Rattle.log.specs.declared.answer.Read.the-variants.{Accepted, TooLong, CutShort, LeftOver, Unequal}
+use Rattle.log.specs.declared.answer.Read.the-variants.{Accepted, TooLong, CutShort, LeftOver, Unequal, WideDomain}
 
 -- what holds of each refusal holds of what every test gives
 pub each-refusal : (P : Read → Type 0) (s : List ℕ)
-    → P TooLong → ((n : ℕ) → 1 ≤ n → n ≤ 4 → P (CutShort n)) → P LeftOver → P Unequal → OneOf P (readTests s)
-each-refusal P s long cut left unequal =
-    (long, (cut 1 (lit≤ tt) (lit≤ tt), (cut 2 (lit≤ tt) (lit≤ tt), (cut 3 (lit≤ tt) (lit≤ tt), (cut 4 (lit≤ tt) (lit≤ tt), (left, (unequal, tt)))))))
+    → P TooLong → ((n : ℕ) → 1 ≤ n → n ≤ 4 → P (CutShort n)) → P LeftOver → P Unequal → P WideDomain → OneOf P (readTests s)
+each-refusal P s long cut left unequal wide =
+    (long, (cut 1 (lit≤ tt) (lit≤ tt), (cut 2 (lit≤ tt) (lit≤ tt), (cut 3 (lit≤ tt) (lit≤ tt), (cut 4 (lit≤ tt) (lit≤ tt), (left, (unequal, (wide, tt))))))))
 
 -- ---- the promise, by its equation alone
 
@@ -39,7 +39,7 @@ Gone s a = goneIn a ≡ cond (eqb (numberOf a) 0) (goneThrough s) 0
 pub read-gone : (s : List ℕ) → Gone s (readOf s)
 unfolding readOf
 read-gone s =
-    answer-is (Gone s) (readTests s) (Accepted (goneThrough s)) (each-refusal (Gone s) s refl (λ n p q. refl) refl refl) refl
+    answer-is (Gone s) (readTests s) (Accepted (goneThrough s)) (each-refusal (Gone s) s refl (λ n p q. refl) refl refl refl) refl
 
 pub promised : (s : List ℕ) {a : Read} → a ≡ readOf s → Reading s a
 promised s e =
@@ -61,9 +61,10 @@ labelOf TooLong = 5
 labelOf (CutShort section) = section
 labelOf LeftOver = 6
 labelOf Unequal = 7
+labelOf WideDomain = 8
 
 abbrev labels : List ℕ → List (Test ℕ)
-labels s = testsOf 5 (λ section. section) 6 7 s
+labels s = testsOf 5 (λ section. section) 6 7 8 s
 
 read-label : (s : List ℕ) → labelOf (readOf s) ≡ decide (labels s) 0
 unfolding readOf
@@ -80,6 +81,7 @@ cut-at TooLong n h k e = absurd (omega arith)
 cut-at (CutShort section) n h k e = ap CutShort e
 cut-at LeftOver n h k e = absurd (omega arith)
 cut-at Unequal n h k e = absurd (omega arith)
+cut-at WideDomain n h k e = absurd (omega arith)
 
 cut-first : (s : List ℕ) (n : ℕ) → 1 ≤ n → n ≤ 4 → (readOf s ≡ CutShort n) ↔ FirstFails n (labels s)
 cut-first s n h k = (λ e. first-at s n .0 (ap labelOf e), λ f. cut-at (readOf s) n h k (first-at s n .1 f))
@@ -104,13 +106,14 @@ all-passed s e = first-at s 0 .0 (ap labelOf e)
 
 -- ---- what goes with a number
 
--- reading answers 0 or 13 to 16
-pub read-numbers : (a : Read) → (numberOf a ≡ 0) ⊎ ((13 ≤ numberOf a) × (numberOf a ≤ 16))
+-- reading answers 0, 13 to 16 or 20
+pub read-numbers : (a : Read) → (numberOf a ≡ 0) ⊎ (((13 ≤ numberOf a) × (numberOf a ≤ 16)) ⊎ (numberOf a ≡ 20))
 read-numbers (Accepted gone) = inl refl
-read-numbers TooLong = inr (lit≤ tt, lit≤ tt)
-read-numbers (CutShort section) = inr (lit≤ tt, lit≤ tt)
-read-numbers LeftOver = inr (lit≤ tt, lit≤ tt)
-read-numbers Unequal = inr (lit≤ tt, lit≤ tt)
+read-numbers TooLong = inr (inl (lit≤ tt, lit≤ tt))
+read-numbers (CutShort section) = inr (inl (lit≤ tt, lit≤ tt))
+read-numbers LeftOver = inr (inl (lit≤ tt, lit≤ tt))
+read-numbers Unequal = inr (inl (lit≤ tt, lit≤ tt))
+read-numbers WideDomain = inr (inr refl)
 
 -- every answer but 13 has section 0, and every refusal has gone through nothing
 pub only-thirteen-names : (a : Read) → (numberOf a ≡ 13 → ⊥) → sectionIn a ≡ 0
@@ -119,6 +122,7 @@ only-thirteen-names TooLong n = refl
 only-thirteen-names (CutShort section) n = absurd (n refl)
 only-thirteen-names LeftOver n = refl
 only-thirteen-names Unequal n = refl
+only-thirteen-names WideDomain n = refl
 
 pub refusals-went-nowhere : (a : Read) → (numberOf a ≡ 0 → ⊥) → goneIn a ≡ 0
 refusals-went-nowhere (Accepted gone) n = absurd (n refl)
@@ -126,6 +130,7 @@ refusals-went-nowhere TooLong n = refl
 refusals-went-nowhere (CutShort section) n = refl
 refusals-went-nowhere LeftOver n = refl
 refusals-went-nowhere Unequal n = refl
+refusals-went-nowhere WideDomain n = refl
 
 -- 13 comes with a section of 1 to 4
 abbrev pub Named : Read → Type 0
@@ -135,5 +140,6 @@ pub section-named : (s : List ℕ) → Named (readOf s)
 unfolding readOf
 section-named s =
     answer-is Named (readTests s) (Accepted (goneThrough s))
-    (each-refusal Named s (λ z. absurd (omega arith)) (λ n p q z. (p, q)) (λ z. absurd (omega arith)) (λ z. absurd (omega arith)))
+    (each-refusal Named s (λ z. absurd (omega arith)) (λ n p q z. (p, q)) (λ z. absurd (omega arith)) (λ z. absurd (omega arith))
+    (λ z. absurd (omega arith)))
     (λ z. absurd (omega arith))

@@ -7,8 +7,8 @@ use Prim.Native.Nat.{ℕ, zero, suc, _+_, _*_, _^_, _≤_, _<_}
 use native.Mathlib.Nat.{zero-mul, suc-mul, add-comm}
 use native.Mathlib.Omega.{arith}
 use borrow.Author.Tests.{le-leb}
-use lib.ListN.{length, take, drop, length-append, length-drop, take-append-drop}
-use lib.Seq.{take-add, take-at, drop-at, length-take-le}
+use lib.ListN.{length, take, drop, getD, length-append, length-drop, take-append-drop}
+use lib.Seq.{take-add, take-at, drop-at, drop-drop, length-take-le}
 use Rattle.log.specs.Number.{little, number, Bytes}
 use Rattle.log.specs.Section.{countOf, endOf, wholeOf, afterOf}
 use Rattle.log.specs.Log.{entryBytes, sectionBytes, entriesIn}
@@ -27,16 +27,24 @@ count-again s b h =
     let l : length (take 4 s) ≡ 4 = length-take-le 4 s h in
     rw l at (little-number (take 4 s) (bytes-take 4 s b))
 
--- some bytes begin with the section of some entries, and go on with the rest
-pub record Stands {A : Type 0} (size : ℕ) (read : List ℕ → A) (entries : List A) (s rest : List ℕ) : Type 0 where
+-- some bytes begin with a section of so many entries, and go on with the rest
+pub record Stands (size count : ℕ) (s rest : List ℕ) : Type 0 where
   pub whole : wholeOf size s ≡ true
-  pub counts : countOf s ≡ length entries
+  pub counts : countOf s ≡ count
   pub after : afterOf size s ≡ rest
-  pub back : entriesIn size read (countOf s) (drop 4 s) ≡ entries
 
 pub entries-count : {A : Type 0} (size : ℕ) (read : List ℕ → A) (n : ℕ) (s : List ℕ) → length (entriesIn size read n s) ≡ n
 entries-count size read zero s = refl
 entries-count size read (suc n) s = ap suc (entries-count size read n (drop size s))
+
+-- entry i of some entries
+pub entry-at : {A : Type 0} (size : ℕ) (read : List ℕ → A) (n : ℕ) (s : List ℕ) (i : ℕ) (other : A) → i < n
+    → getD (entriesIn size read n s) i other ≡ read (drop (i * size) s)
+entry-at size read zero s i other h = absurd (omega arith)
+entry-at size read (suc n) s zero other h = rw zero-mul
+entry-at size read (suc n) s (suc i) other h =
+    entry-at size read n (drop size s) i other (omega arith)
+    ∙ ap read (drop-drop (i * size) size s ∙ ap (λ (k : ℕ). drop k s) (add-comm size (i * size) ∙ sym (suc-mul i size)))
 
 -- a kind of entry: its size, its bytes, and the entry that some bytes begin with
 module _ {A : Type 0} (size : ℕ) (bytes : A → List ℕ) (read : List ℕ → A) (Fits : A → Type 0)
@@ -101,16 +109,19 @@ module _ {A : Type 0} (size : ℕ) (bytes : A → List ℕ) (read : List ℕ →
         ap (drop 4) behind ∙ drop-at (little 4 (length entries)) (entryBytes bytes entries ++ rest) 4 (length-little 4 (length entries)) in
         rw (section-count, body) (entries-back entries rest f)
 
-  pub section-stands : (entries : List A) (rest s : List ℕ) → length entries < 2 ^ 32 → Each Fits entries
-      → s ≡ sectionBytes bytes entries ++ rest → Stands size read entries s rest
-  section-stands entries rest s few fits e =
-      rw e
-      record {
-        whole = section-whole entries rest few;
-        counts = section-count entries rest few;
-        after = section-after entries rest few;
-        back = section-back entries rest few fits;
-      }
+  module _ (entries : List A) (rest s : List ℕ) (few : length entries < 2 ^ 32) (e : s ≡ sectionBytes bytes entries ++ rest) where
+    pub section-stands : Stands size (length entries) s rest
+    section-stands =
+        rw e
+        record {
+          whole = section-whole entries rest few;
+          counts = section-count entries rest few;
+          after = section-after entries rest few;
+        }
+
+    -- entries that fit are read back
+    pub section-read : Each Fits entries → entriesIn size read (countOf s) (drop 4 s) ≡ entries
+    section-read fits = rw e (section-back entries rest few fits)
 
   -- a whole section that was read, written again before its rest
   pub section-again : (s : List ℕ) → Bytes s → Whole size s

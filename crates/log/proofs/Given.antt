@@ -4,20 +4,21 @@ use mathlib.Core.Path.{_≡_, refl, sym, ap, _∙_}
 use mathlib.Core.Bool.{true}
 use mathlib.Core.List.{List}
 use Prim.Native.Nat.{ℕ, zero, suc, _+_, _*_, _≤_, _<_}
-use native.Mathlib.Nat.{zero-mul, suc-mul, add-comm, add-zero}
+use native.Mathlib.Nat.{add-zero}
 use native.Mathlib.Numerals.{add-one}
 use native.Mathlib.Omega.{arith}
 use borrow.Author.Tests.{lt-ltb, le-leb}
 use lib.ListN.{length, drop, getD, length-drop}
 use lib.Seq.{drop-drop}
 use Rattle.log.specs.Section.{injectionSize, sizes, countOf, endOf, sectionOf, restAfter, countAfter, wholeAfter}
-use Rattle.log.specs.Log.{Address, Entries, nowhere, byteIn, wordIn, pairIn, injectionIn, entriesIn, entriesOf, bodyAfter}
+use Rattle.log.specs.Log.{Address, nowhere, byteIn, wordIn, pairIn, injectionIn, injectionByte, domainOf, entriesOf, bodyAfter}
 use Rattle.log.specs.Answer.{readOf}
 use Rattle.log.specs.Look.{sectionAt, movedPast, skipFrom, entryIn, entryOf, lookAt, startAfter, entryGiven}
 use Rattle.log.specs.declared.answer.Read.the-variants.{Accepted}
 use Rattle.log.specs.declared.section.Section.{Section}
 use Rattle.log.specs.declared.entry.Place.{Place}
 use Rattle.log.specs.declared.entry.Entry.{Entry}
+use Rattle.log.proofs.Codec.{entry-at}
 use Rattle.log.proofs.Found.{Whole, is-found}
 use Rattle.log.proofs.Places.{place-in, look-found, look-past}
 use Rattle.log.proofs.RoundTrip.{Accepts, accepts}
@@ -29,15 +30,6 @@ rest-at s (suc n) =
     let size = getD sizes n 0 in
     let end = endOf size (restAfter s n) in
     ap (drop end) (rest-at s n) ∙ drop-drop end (startAfter s n) s
-
--- entry i of some entries
-entry-at : {A : Type 0} (size : ℕ) (read : List ℕ → A) (n : ℕ) (s : List ℕ) (i : ℕ) (other : A) → i < n
-    → getD (entriesIn size read n s) i other ≡ read (drop (i * size) s)
-entry-at size read zero s i other h = absurd (omega arith)
-entry-at size read (suc n) s zero other h = rw zero-mul
-entry-at size read (suc n) s (suc i) other h =
-    entry-at size read n (drop size s) i other (omega arith)
-    ∙ ap read (drop-drop (i * size) size s ∙ ap (λ (k : ℕ). drop k s) (add-comm size (i * size) ∙ sym (suc-mul i size)))
 
 module _ (s : List ℕ) {gone : ℕ} (e : readOf s ≡ Accepted gone) where
   whole-section : (n : ℕ) → n < 4 → Whole (getD sizes n 0) (restAfter s n)
@@ -83,7 +75,9 @@ module _ (s : List ℕ) {gone : ℕ} (e : readOf s ≡ Accepted gone) where
   given-in (suc (suc zero)) i h k =
       ap (λ (a : Address). Entry.Address (record { 0 = a .far }) (record { 0 = a .hpfar }))
       (sym (entry-at 16 pairIn (countAfter s 2) (bodyAfter s 2) i nowhere k))
-  given-in (suc (suc (suc zero))) i h k = ap Entry.Injection (sym (entry-at injectionSize injectionIn (countAfter s 3) (bodyAfter s 3) i 0 k))
+  given-in (suc (suc (suc zero))) i h k =
+      ap (λ (n : ℕ). Entry.Injection (injectionByte n) (domainOf n))
+      (sym (entry-at injectionSize injectionIn (countAfter s 3) (bodyAfter s 3) i 0 k))
   given-in (suc (suc (suc (suc n)))) i h k = absurd (omega arith)
 
   pub entry-found : (n i : ℕ) → n < 4 → i < countAfter s n

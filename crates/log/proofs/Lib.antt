@@ -5,3 +5,5 @@ pub mod Codec
 pub mod RoundTrip
 pub mod Given
 pub mod Answers
+pub mod Domains
+pub mod Older

@@ -60,6 +60,18 @@ pub number-one : (s : List ℕ) (at : ℕ) → at < length s → getD s at 0 ≡
 unfolding number
 number-one s at h = omega (arith, next 0 s at (at + 1) refl h)
 
+-- two bytes, one by one: the first is the low one
+number-two : (s : List ℕ) (at : ℕ) → at + 2 ≤ length s → number (take 2 (drop at s)) ≡ getD s at 0 + 256 * getD s (at + 1) 0
+unfolding number
+number-two s at h =
+    rw (next 1 s at (at + 1) refl (omega arith), next 0 s (at + 1) (at + 2) (omega arith) (omega arith)) (omega arith)
+
+pub low-byte : (s : List ℕ) (at : ℕ) → Bytes s → at + 2 ≤ length s → getD s at 0 ≡ number (take 2 (drop at s)) % 256
+low-byte s at b h = omega (arith, number-two s at h, b at)
+
+pub high-byte : (s : List ℕ) (at : ℕ) → Bytes s → at + 2 ≤ length s → getD s (at + 1) 0 ≡ number (take 2 (drop at s)) / 256
+high-byte s at b h = omega (arith, number-two s at h, b at)
+
 -- four bytes, one by one
 pub number-four : (s : List ℕ) (at : ℕ) → at + 4 ≤ length s
     → number (take 4 (drop at s)) ≡ getD s at 0 + 256 * (getD s (at + 1) 0 + 256 * (getD s (at + 2) 0 + 256 * getD s (at + 3) 0))

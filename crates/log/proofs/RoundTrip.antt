@@ -1,6 +1,7 @@
 -- The laws of request C-14 on the format: a log that is accepted is the log of its entries, and the log of any entries is accepted with them.
 -- Assumes nothing.
 use mathlib.Core.Path.{_≡_, refl, sym, ap, subst, _∙_}
+use mathlib.Core.Bool.{true}
 use mathlib.Core.List.{List, [], _∷_, _++_, append-assoc, append-nil}
 use Prim.Native.Nat.{ℕ, zero, suc, _+_, _-_, _*_, _^_, _≤_, _<_}
 use native.Mathlib.Nat.{le-mul-of-pos-right}
@@ -12,15 +13,15 @@ use lib.Seq.{take-at, drop-at, take-add, take-append-le, length-take-le}
 use Rattle.log.specs.Number.{little, number, Bytes}
 use Rattle.bits.proofs.Deciding.{all-pass}
 use Rattle.log.specs.Section.{injectionSize, sizes, countOf, endOf, wholeOf, afterOf, restAfter, countAfter}
-use Rattle.log.specs.Log.{Address, Entries, byte, word, pair, injection, byteIn, wordIn, pairIn, injectionIn, sectionBytes, entriesIn, logOf, bodyAfter, entriesOf, goneThrough}
+use Rattle.log.specs.Log.{Address, Entries, byte, word, pair, injection, byteIn, wordIn, pairIn, domainsFit, sectionBytes, entriesIn, logOf, bodyAfter, injectionsOf, entriesOf, goneThrough}
 use Rattle.log.specs.Answer.{readTests, readOf}
 use Rattle.log.specs.declared.answer.Read.the-variants.{Accepted}
 use Rattle.log.proofs.Answers.{Gone, read-gone, all-passed}
 use Rattle.log.proofs.Numbers.{length-little, number-little, little-number, bytes-drop, bytes-take}
 use Rattle.log.proofs.Found.{Whole, whole-is}
-use Rattle.log.proofs.Codec.{Each, Stands, section-length, section-stands, section-again, entries-count}
+use Rattle.log.proofs.Codec.{Each, Stands, section-length, section-stands, section-read, section-again, entries-count}
 
-none : (l : List ℕ) → length l ≡ 0 → l ≡ []
+pub none : (l : List ℕ) → length l ≡ 0 → l ≡ []
 none [] h = refl
 none (x ∷ l) h = absurd (omega arith)
 
@@ -49,9 +50,13 @@ module _ (width : ℕ) where
   pub numbers-length : (entries : List ℕ) → length (sectionBytes (little width) entries) ≡ 4 + length entries * width
   numbers-length = section-length width (little width) (λ x. number (take width x)) Fitting (length-little width) number-back number-again
 
-  pub numbers-stand : (entries : List ℕ) (rest s : List ℕ) → length entries < 2 ^ 32 → Each Fitting entries
-      → s ≡ sectionBytes (little width) entries ++ rest → Stands width (λ x. number (take width x)) entries s rest
+  pub numbers-stand : (entries : List ℕ) (rest s : List ℕ) → length entries < 2 ^ 32 → s ≡ sectionBytes (little width) entries ++ rest
+      → Stands width (length entries) s rest
   numbers-stand = section-stands width (little width) (λ x. number (take width x)) Fitting (length-little width) number-back number-again
+
+  numbers-read : (entries : List ℕ) (rest s : List ℕ) → length entries < 2 ^ 32 → s ≡ sectionBytes (little width) entries ++ rest
+      → Each Fitting entries → entriesIn width (λ x. number (take width x)) (countOf s) (drop 4 s) ≡ entries
+  numbers-read = section-read width (little width) (λ x. number (take width x)) Fitting (length-little width) number-back number-again
 
 pub record PairFits (a : Address) : Type 0 where
   pub far : Fitting 8 (a .far)
@@ -86,6 +91,7 @@ pub record Accepts (s : List ℕ) (gone : ℕ) : Type 0 where
   pub injections : Whole injectionSize (restAfter s 3)
   pub none-left : length (restAfter s 4) ≡ 0
   pub agree : countAfter s 1 ≡ countAfter s 2
+  pub domains : domainsFit (injectionsOf s) ≡ true
   pub told : gone ≡ goneThrough s
 
 pub accepts : (s : List ℕ) {gone : ℕ} → readOf s ≡ Accepted gone → Accepts s gone
@@ -99,6 +105,7 @@ accepts s e =
       injections = whole-is injectionSize (restAfter s 3) (f .1 .1 .1 .1 .0);
       none-left = eqb-true (length (restAfter s 4)) 0 (f .1 .1 .1 .1 .1 .0);
       agree = eqb-true (countAfter s 1) (countAfter s 2) (f .1 .1 .1 .1 .1 .1 .0);
+      domains = f .1 .1 .1 .1 .1 .1 .1 .0;
       told = subst (Gone s) e (read-gone s);
     }
 
@@ -142,64 +149,100 @@ unfolding entriesOf
 entries-agree s e =
     entries-count 8 wordIn (countAfter s 1) (bodyAfter s 1) ∙ accepts s e .agree ∙ sym (entries-count 16 pairIn (countAfter s 2) (bodyAfter s 2))
 
--- what the writer's slices and tests make sure of entries: they fit, syndromes and addresses agree, and the log is not too long
+-- and each of its domains is at most 15
+pub entries-fit : (s : List ℕ) {gone : ℕ} → readOf s ≡ Accepted gone → domainsFit (entriesOf s .injections) ≡ true
+unfolding entriesOf
+entries-fit s e = accepts s e .domains
+
+-- what the writer's slices and tests make sure of entries: they fit, syndromes and addresses agree, each domain is at most 15, and the log is not
+-- too long
 pub record Writable (e : Entries) : Type 0 where
   pub editions : Each (Fitting 1) (e .editions)
   pub syndromes : Each (Fitting 8) (e .syndromes)
   pub addresses : Each PairFits (e .addresses)
   pub injections : Each (Fitting injectionSize) (e .injections)
   pub agree : length (e .syndromes) ≡ length (e .addresses)
+  pub domains : domainsFit (e .injections) ≡ true
   pub short : length (logOf e) ≤ 65536
 
-pub log-length : (e : Entries) → length (logOf e)
-    ≡ 16 + length (e .editions) + length (e .syndromes) * 8 + length (e .addresses) * 16 + length (e .injections) * injectionSize
-unfolding logOf
-log-length e =
-    let fourth : List ℕ = sectionBytes injection (e .injections) in
-    let third : List ℕ = sectionBytes pair (e .addresses) ++ fourth in
-    let second : List ℕ = sectionBytes word (e .syndromes) ++ third in
-    omega (
-      arith,
-      length-append (sectionBytes byte (e .editions)) second,
-      length-append (sectionBytes word (e .syndromes)) third,
-      length-append (sectionBytes pair (e .addresses)) fourth,
-      numbers-length 1 (e .editions),
-      numbers-length 8 (e .syndromes),
-      pairs-length (e .addresses),
-      numbers-length injectionSize (e .injections),
-    )
-
--- ACCEPTED: the log of writable entries is read, and holds those entries
-module _ (e : Entries) (w : Writable e) where
-  abbrev s : List ℕ
-  s = logOf e
-
-  abbrev fourth : List ℕ
-  fourth = sectionBytes injection (e .injections)
-
+-- three sections, and whatever stands behind them
+module _ (e : Entries) (fourth : List ℕ) where
   abbrev third : List ℕ
   third = sectionBytes pair (e .addresses) ++ fourth
 
   abbrev second : List ℕ
   second = sectionBytes word (e .syndromes) ++ third
 
-  editions-stand : Stands 1 byteIn (e .editions) s second
+  abbrev pub threeThen : List ℕ
+  threeThen = sectionBytes byte (e .editions) ++ second
+
+  pub three-length : length threeThen ≡ 12 + length (e .editions) + length (e .syndromes) * 8 + length (e .addresses) * 16 + length fourth
+  three-length =
+      omega (
+        arith,
+        length-append (sectionBytes byte (e .editions)) second,
+        length-append (sectionBytes word (e .syndromes)) third,
+        length-append (sectionBytes pair (e .addresses)) fourth,
+        numbers-length 1 (e .editions),
+        numbers-length 8 (e .syndromes),
+        pairs-length (e .addresses),
+      )
+
+  module _ (s : List ℕ) (is : s ≡ threeThen) (short : length s ≤ 65536) where
+    measured : length s ≡ 12 + length (e .editions) + length (e .syndromes) * 8 + length (e .addresses) * 16 + length fourth
+    measured = ap length is ∙ three-length
+
+    pub editions-stand : Stands 1 (length (e .editions)) s second
+    editions-stand = numbers-stand 1 (e .editions) second s (omega (arith, measured)) is
+
+    pub syndromes-stand : Stands 8 (length (e .syndromes)) (restAfter s 1) third
+    syndromes-stand = numbers-stand 8 (e .syndromes) third (restAfter s 1) (omega (arith, measured)) (editions-stand .after)
+
+    pub addresses-stand : Stands 16 (length (e .addresses)) (restAfter s 2) fourth
+    addresses-stand =
+        section-stands 16 pair pairIn PairFits pair-sized pair-back pair-again (e .addresses) fourth (restAfter s 2) (omega (arith, measured))
+        (syndromes-stand .after)
+
+pub log-length : (e : Entries) → length (logOf e)
+    ≡ 16 + length (e .editions) + length (e .syndromes) * 8 + length (e .addresses) * 16 + length (e .injections) * injectionSize
+unfolding logOf
+log-length e = omega (arith, three-length e (sectionBytes injection (e .injections)), numbers-length injectionSize (e .injections))
+
+-- ACCEPTED: the log of writable entries is read, and holds those entries
+module _ (e : Entries) (w : Writable e) where
+  abbrev s : List ℕ
+  s = logOf e
+
+  abbrev last : List ℕ
+  last = sectionBytes injection (e .injections)
+
+  is : s ≡ threeThen e last
   unfolding logOf
-  editions-stand = numbers-stand 1 (e .editions) second s (omega (arith, log-length e, w .short)) (w .editions) refl
+  is = refl
 
-  syndromes-stand : Stands 8 wordIn (e .syndromes) (restAfter s 1) third
-  syndromes-stand =
-      numbers-stand 8 (e .syndromes) third (restAfter s 1) (omega (arith, log-length e, w .short)) (w .syndromes) (editions-stand .after)
+  few : (length (e .editions) < 2 ^ 32) × (length (e .syndromes) < 2 ^ 32) × (length (e .addresses) < 2 ^ 32) × (length (e .injections) < 2 ^ 32)
+  few =
+      let l = log-length e in
+      let h = w .short in
+      (omega arith, omega arith, omega arith, omega arith)
 
-  addresses-stand : Stands 16 pairIn (e .addresses) (restAfter s 2) fourth
-  addresses-stand =
-      section-stands 16 pair pairIn PairFits pair-sized pair-back pair-again (e .addresses) fourth (restAfter s 2)
-      (omega (arith, log-length e, w .short)) (w .addresses) (syndromes-stand .after)
+  editions : Stands 1 (length (e .editions)) s (second e last)
+  editions = editions-stand e last s is (w .short)
 
-  injections-stand : Stands injectionSize injectionIn (e .injections) (restAfter s 3) []
-  injections-stand =
-      numbers-stand injectionSize (e .injections) [] (restAfter s 3) (omega (arith, log-length e, w .short)) (w .injections)
-      (addresses-stand .after ∙ sym (append-nil fourth))
+  syndromes : Stands 8 (length (e .syndromes)) (restAfter s 1) (third e last)
+  syndromes = syndromes-stand e last s is (w .short)
+
+  addresses : Stands 16 (length (e .addresses)) (restAfter s 2) last
+  addresses = addresses-stand e last s is (w .short)
+
+  ends : restAfter s 3 ≡ last ++ []
+  ends = addresses .after ∙ sym (append-nil last)
+
+  injections : Stands injectionSize (length (e .injections)) (restAfter s 3) []
+  injections = numbers-stand injectionSize (e .injections) [] (restAfter s 3) (few .3) ends
+
+  injections-back : injectionsOf s ≡ e .injections
+  injections-back = numbers-read injectionSize (e .injections) [] (restAfter s 3) (few .3) ends (w .injections)
 
   pub log-accepted : readOf (logOf e)
       ≡ Accepted (4 + length (e .editions) + length (e .syndromes) + length (e .addresses) + length (e .injections))
@@ -208,18 +251,18 @@ module _ (e : Entries) (w : Writable e) where
       all-pass (readTests s) (Accepted (goneThrough s)) (
         le-leb (length s) 65536 (w .short),
         (
-          editions-stand .whole,
+          editions .whole,
           (
-            syndromes-stand .whole,
+            syndromes .whole,
             (
-              addresses-stand .whole,
+              addresses .whole,
               (
-                injections-stand .whole,
+                injections .whole,
                 (
-                  eq-eqb (length (restAfter s 4)) 0 (ap length (injections-stand .after)),
+                  eq-eqb (length (restAfter s 4)) 0 (ap length (injections .after)),
                   (
-                    eq-eqb (countAfter s 1) (countAfter s 2) (syndromes-stand .counts ∙ w .agree ∙ sym (addresses-stand .counts)),
-                    tt,
+                    eq-eqb (countAfter s 1) (countAfter s 2) (syndromes .counts ∙ w .agree ∙ sym (addresses .counts)),
+                    (ap domainsFit injections-back ∙ w .domains, tt),
                   ),
                 ),
               ),
@@ -227,8 +270,14 @@ module _ (e : Entries) (w : Writable e) where
           ),
         ),
       )
-      ∙ (ap Accepted (omega (arith, editions-stand .counts, syndromes-stand .counts, addresses-stand .counts, injections-stand .counts)))
+      ∙ (ap Accepted (omega (arith, editions .counts, syndromes .counts, addresses .counts, injections .counts)))
 
   pub log-entries : entriesOf (logOf e) ≡ e
   unfolding entriesOf
-  log-entries = rw (editions-stand .back, syndromes-stand .back, addresses-stand .back, injections-stand .back)
+  log-entries =
+      rw (
+        numbers-read 1 (e .editions) (second e last) s (few .0) is (w .editions),
+        numbers-read 8 (e .syndromes) (third e last) (restAfter s 1) (few .1) (editions .after) (w .syndromes),
+        section-read 16 pair pairIn PairFits pair-sized pair-back pair-again (e .addresses) last (restAfter s 2) (few .2) (syndromes .after) (w .addresses),
+        injections-back,
+      )

@@ -3,19 +3,21 @@ use Prim.Native.Nat.{ℕ, _+_}
 use mathlib.Core.Bool.{Bool}
 use mathlib.Core.List.{List, [], _∷_}
 use lib.Dec.{eqb}
-use lib.ListN.{length}
+use lib.ListN.{length, drop}
 use Rattle.bits.specs.Decide.{needs, decide}
 use Rattle.log.specs.Section.{injectionSize, countOf, wholeOf, afterOf}
+use Rattle.log.specs.Log.{injectionIn, entriesIn, domainsFit}
 use Rattle.log.specs.declared.answer.Read.{Read}
-use Rattle.log.specs.declared.answer.Read.the-variants.{Accepted, CutShort, LeftOver, Unequal}
+use Rattle.log.specs.declared.answer.Read.the-variants.{Accepted, CutShort, LeftOver, Unequal, WideDomain}
 
--- nothing is left over after the last section, and the counts agree
+-- nothing is left over after the last section, the counts agree, and each domain is at most 15
 abbrev pub injectionsIn : List ℕ → ℕ → Bool → Read
 injectionsIn s gone agree =
     decide
     (needs (wholeOf injectionSize s) (CutShort 4)
     ∷ needs (eqb (length (afterOf injectionSize s)) 0) LeftOver
     ∷ needs agree Unequal
+    ∷ needs (domainsFit (entriesIn injectionSize injectionIn (countOf s) (drop 4 s))) WideDomain
     ∷ [])
     (Accepted (gone + 1 + countOf s))
 

@@ -4,3 +4,4 @@ pub mod Log
 pub mod Answer
 pub mod Inner
 pub mod Look
+pub mod Older

@@ -1,6 +1,8 @@
--- Request C-14: what a log is, the bytes of its four sections, and the entries that a log's bytes hold.
-use Prim.Native.Nat.{ℕ, zero, suc, _+_}
+-- Requests C-14 and C-21: what a log is, the bytes of its four sections, and the entries that a log's bytes hold.
+use Prim.Native.Nat.{ℕ, zero, suc, _+_, _/_, _%_}
+use mathlib.Core.Bool.{Bool, true, _&&_}
 use mathlib.Core.List.{List, [], _∷_, _++_}
+use lib.Dec.{leb}
 use lib.ListN.{length, take, drop}
 use Rattle.log.specs.Number.{little, number}
 use Rattle.log.specs.Section.{injectionSize, restAfter, countAfter}
@@ -12,6 +14,18 @@ pub record Address : Type 0 where
 
 abbrev pub nowhere : Address
 nowhere = record { far = 0; hpfar = 0 }
+
+-- an entry of the fourth section is the number of its two bytes: the first is the injection's own, the second its domain
+abbrev pub injectionByte : ℕ → ℕ
+injectionByte n = n % 256
+
+abbrev pub domainOf : ℕ → ℕ
+domainOf n = n / 256
+
+-- C-21, "judged by size alone": each domain is at most 15, whatever stands before it
+abbrev pub domainsFit : List ℕ → Bool
+domainsFit [] = true
+domainsFit (n ∷ rest) = leb (domainOf n) 15 && domainsFit rest
 
 -- what a log carries, as the numbers that its bytes make. An entry that is given has each word in the struct of its kind (Look.antt).
 pub record Entries : Type 0 where
@@ -70,13 +84,16 @@ logOf e =
 abbrev pub bodyAfter : List ℕ → ℕ → List ℕ
 bodyAfter s n = drop 4 (restAfter s n)
 
+abbrev pub injectionsOf : List ℕ → List ℕ
+injectionsOf s = entriesIn injectionSize injectionIn (countAfter s 3) (bodyAfter s 3)
+
 unfoldable pub entriesOf : List ℕ → Entries
 entriesOf s =
     record {
       editions = entriesIn 1 byteIn (countAfter s 0) (bodyAfter s 0);
       syndromes = entriesIn 8 wordIn (countAfter s 1) (bodyAfter s 1);
       addresses = entriesIn 16 pairIn (countAfter s 2) (bodyAfter s 2);
-      injections = entriesIn injectionSize injectionIn (countAfter s 3) (bodyAfter s 3);
+      injections = injectionsOf s;
     }
 
 -- how many counts and entries a log has: four counts, and an address pair is one entry

@@ -5,7 +5,7 @@ use mathlib.Core.List.{List}
 use lib.Dec.{leb, ltb}
 use lib.ListN.{length, drop, getD}
 use Rattle.log.specs.Section.{sizes, endOf, sectionOf, restAfter}
-use Rattle.log.specs.Log.{Entries, byteIn, wordIn, injectionIn, nowhere}
+use Rattle.log.specs.Log.{Entries, byteIn, wordIn, injectionIn, injectionByte, domainOf, nowhere}
 use Rattle.log.specs.declared.section.Section.{Section}
 use Rattle.log.specs.declared.entry.Place.{Place}
 use Rattle.log.specs.declared.entry.Entry.{Entry}
@@ -29,7 +29,7 @@ abbrev pub entryIn : ℕ → List ℕ → Entry
 entryIn zero s = Entry.Edition (byteIn s)
 entryIn (suc zero) s = Entry.Syndrome (record { 0 = wordIn s })
 entryIn (suc (suc zero)) s = Entry.Address (record { 0 = wordIn s }) (record { 0 = wordIn (drop 8 s) })
-entryIn (suc (suc (suc n))) s = Entry.Injection (injectionIn s)
+entryIn (suc (suc (suc n))) s = Entry.Injection (injectionByte (injectionIn s)) (domainOf (injectionIn s))
 
 -- entry i of a section, or that there is none
 abbrev pub entryOf : List ℕ → ℕ → ℕ → ℕ → Section → Entry
@@ -52,4 +52,4 @@ entryGiven e zero i = Entry.Edition (getD (e .editions) i 0)
 entryGiven e (suc zero) i = Entry.Syndrome (record { 0 = getD (e .syndromes) i 0 })
 entryGiven e (suc (suc zero)) i =
     Entry.Address (record { 0 = getD (e .addresses) i nowhere .far }) (record { 0 = getD (e .addresses) i nowhere .hpfar })
-entryGiven e (suc (suc (suc n))) i = Entry.Injection (getD (e .injections) i 0)
+entryGiven e (suc (suc (suc n))) i = Entry.Injection (injectionByte (getD (e .injections) i 0)) (domainOf (getD (e .injections) i 0))

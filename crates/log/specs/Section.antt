@@ -8,9 +8,9 @@ use lib.ListN.{length, take, drop, getD}
 use Rattle.log.specs.Number.{number}
 use Rattle.log.specs.declared.section.Section.{Section}
 
--- the size of an injection
+-- the size of an injection (request C-21): its own byte, and its domain
 abbrev pub injectionSize : ℕ
-injectionSize = 1
+injectionSize = 2
 
 -- the size of an entry, once for each section: editions seen, syndromes, addresses, injections
 abbrev pub sizes : List ℕ

@@ -13,6 +13,8 @@ pub enum Read {
     LeftOver,
     // 15: the syndrome and address counts differ.
     Unequal,
+    // 20: the domain of an injection is above 15.
+    WideDomain,
 }
 
 // The answer's number in the definition.
@@ -25,6 +27,7 @@ pub fn number_of(answer: Read) -> u32
         Read::CutShort(_) => 13,
         Read::LeftOver => 14,
         Read::Unequal => 15,
+        Read::WideDomain => 20,
     }
 }
 
@@ -38,6 +41,7 @@ pub fn section_in(answer: Read) -> u32
         Read::TooLong => 0,
         Read::LeftOver => 0,
         Read::Unequal => 0,
+        Read::WideDomain => 0,
     }
 }
 
@@ -51,5 +55,6 @@ pub fn gone_in(answer: Read) -> usize
         Read::CutShort(_) => 0,
         Read::LeftOver => 0,
         Read::Unequal => 0,
+        Read::WideDomain => 0,
     }
 }

@@ -28,7 +28,7 @@ pub enum Entry {
     Edition(u8),
     Syndrome(Esr),
     Address { far: Far, hpfar: Hpfar },
-    Injection(u8),
+    Injection { injection: u8, domain: u8 },
     None,
 }
 
@@ -99,7 +99,10 @@ fn entry_in(log: &[u8], passed: u32, at: usize) -> Entry
             far: Far(eight(log, at)),
             hpfar: Hpfar(eight(log, at + 8)),
         },
-        _ => Entry::Injection(log[at]),
+        _ => Entry::Injection {
+            injection: log[at],
+            domain: log[at + 1],
+        },
     }
 }
 

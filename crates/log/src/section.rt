@@ -10,7 +10,10 @@ pub const SYNDROME: u32 = 8;
 
 pub const ADDRESS: u32 = 16;
 
-pub const INJECTION: u32 = 1;
+pub const INJECTION: u32 = 2;
+
+// The largest domain that an injection may have.
+pub const LAST_DOMAIN: u8 = 15;
 
 // A whole section has its count of entries, and its end is where the next one begins.
 pub enum Section {

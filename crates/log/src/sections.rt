@@ -2,13 +2,16 @@
 //
 // `gone` is how many counts and entries were gone through so far.
 ghost use mathlib.Core.Path.{_≡_};
-ghost use Prim.Native.Nat.{_+_, _<_, _^_};
-ghost use lib.ListN.{length};
+ghost use Prim.Native.Nat.{_+_, _*_, _≤_, _<_, _^_};
+ghost use lib.ListN.{length, drop};
+ghost use Rattle.log.specs.Section.{injectionSize};
+ghost use Rattle.log.specs.Log.{injectionIn, entriesIn, domainsFit};
 ghost use Rattle.log.specs.Inner.{editionsIn, syndromesIn, addressesIn, injectionsIn};
 use super::answer::Read;
 use super::section::ADDRESS;
 use super::section::EDITION;
 use super::section::INJECTION;
+use super::section::LAST_DOMAIN;
 use super::section::SYNDROME;
 use super::section::Section;
 use super::section::front;
@@ -46,20 +49,39 @@ fn addresses(rest: &[u8], gone: usize, syndromes: usize) -> Read
     }
 }
 
-// Nothing may be left after the last section. That the syndrome and address counts agree is tested last.
+// Whether each of so many injections, behind their count, has a domain that may be: its second byte. The first isn't looked at.
+fn domains_fit(rest: &[u8], count: usize) -> bool
+    requires { ⌜ 4 + count * injectionSize ≤ length (now rest) ⌝ }
+    ensures { λ yes. ⌜ yes ≡ domainsFit (entriesIn injectionSize injectionIn count (drop 4 (now (rest .entry)))) ⌝ }
+{
+    let mut i = 0;
+    while i < count {
+        if LAST_DOMAIN < rest[5 + 2 * i] {
+            return false;
+        }
+        i += 1;
+    }
+    true
+}
+
+// Nothing may be left after the last section. That the syndrome and address counts agree is tested next, and the domains last.
 fn injections(rest: &[u8], gone: usize, agree: bool) -> Read
     requires { ⌜ gone + length (now rest) < 2 ^ 64 ⌝ }
     ensures { λ a. ⌜ a ≡ injectionsIn (now (rest .entry)) gone agree ⌝ }
 {
     match front(rest, INJECTION) {
         Section::Whole { count, end } => {
+            let fit = domains_fit(rest, count);
             if end < rest.len() {
                 return Read::LeftOver;
             }
-            if agree {
+            if !agree {
+                return Read::Unequal;
+            }
+            if fit {
                 Read::Accepted(gone + 1 + count)
             } else {
-                Read::Unequal
+                Read::WideDomain
             }
         }
         Section::None => Read::CutShort(4),

@@ -7,10 +7,10 @@ use native.Mathlib.Omega.{arith}
 use lib.ListN.{length, getD, length-append, length-map, List·getD-append, List·getD-eq-default}
 use lib.Seq.{getD-append-add}
 use Rattle.log.specs.Log.{Address, Entries, nowhere}
-use Rattle.log_text.specs.Lines.{readText, editionText, injectionText}
+use Rattle.log_text.specs.Lines.{readText, editionText}
 use Rattle.log.specs.Answer.{readOf}
 use Rattle.text.specs.Append.{Appends}
-use Rattle.log_pieces.specs.Text.{shown, seenMask, trapPiece, entryPieces, piecesIn, piecesOf}
+use Rattle.log_pieces.specs.Text.{shown, seenMask, trapPiece, injectionPiece, entryPieces, piecesIn, piecesOf}
 use Rattle.log_pieces.specs.Inner.{countIn, trapAt}
 use Rattle.log_pieces.proofs.Shown.{shown-agree}
 
@@ -48,7 +48,7 @@ module _ (seen : ℕ) (e : Entries) (agree : length (e .syndromes) ≡ length (e
   traps = zipWith (trapPiece seen) (e .syndromes) (e .addresses)
 
   abbrev injections : List (List ℕ)
-  injections = map injectionText (e .injections)
+  injections = map injectionPiece (e .injections)
 
   traps-length : length traps ≡ length (e .syndromes)
   traps-length = zip-length (trapPiece seen) (e .syndromes) (e .addresses) agree
@@ -77,11 +77,11 @@ module _ (seen : ℕ) (e : Entries) (agree : length (e .syndromes) ≡ length (e
         ∙ zip-at (trapPiece seen) (e .syndromes) (e .addresses) j 0 nowhere agree within)
         ∙ after-editions i (rw first at h))
 
-    pub injection-piece : n ≤ i - m → i - m - n < countIn e 3 → injectionText (getD (e .injections) (i - m - n) 0) ≡ getD (entryPieces seen e) i []
+    pub injection-piece : n ≤ i - m → i - m - n < countIn e 3 → injectionPiece (getD (e .injections) (i - m - n) 0) ≡ getD (entryPieces seen e) i []
     injection-piece k l =
         let within : i - countIn e 0 - countIn e 1 < countIn e 3 = rw (first, second) at l in
         rw (first, second)
-        (sym (map-at injectionText (e .injections) (i - countIn e 0 - countIn e 1) 0 within)
+        (sym (map-at injectionPiece (e .injections) (i - countIn e 0 - countIn e 1) 0 within)
         ∙ after-traps i (rw first at h) (rw (first, second) at k))
 
     pub no-piece : n ≤ i - m → countIn e 3 ≤ i - m - n → [] ≡ getD (entryPieces seen e) i []

@@ -5,11 +5,11 @@ use Prim.Native.Nat.{ℕ, zero, suc, _≤_}
 use native.Mathlib.Omega.{arith}
 use lib.ListN.{length, getD}
 use Rattle.log.specs.Answer.{readOf}
-use Rattle.log.specs.Log.{Address, Entries}
-use Rattle.log_text.specs.Lines.{readText, editionText, injectionText}
+use Rattle.log.specs.Log.{Address, Entries, injectionByte, domainOf}
+use Rattle.log_text.specs.Lines.{readText, editionText}
 use Rattle.log_text.proofs.Room.{read-length, edition-length, injection-length}
 use Rattle.trap_text.proofs.Room.{trap-length}
-use Rattle.log_pieces.specs.Text.{shown, trapPiece, entryPieces, piecesIn}
+use Rattle.log_pieces.specs.Text.{shown, trapPiece, injectionPiece, entryPieces, piecesIn}
 
 abbrev pub Short : List ℕ → Type 0
 Short text = length text ≤ 4096
@@ -37,11 +37,11 @@ unfolding entryPieces
 short-entries seen e =
     let editions = map editionText (e .editions) in
     let traps = zipWith (trapPiece seen) (e .syndromes) (e .addresses) in
-    let injections = map injectionText (e .injections) in
+    let injections = map injectionPiece (e .injections) in
     short-both editions (traps ++ injections) (short-map editionText (λ n. omega (arith, edition-length n)) (e .editions))
     (short-both traps injections
     (short-zip (trapPiece seen) (λ esr a. trap-length seen _ _ _) (e .syndromes) (e .addresses))
-    (short-map injectionText (λ n. omega (arith, injection-length n)) (e .injections)))
+    (short-map injectionPiece (λ n. omega (arith, injection-length (injectionByte n) (domainOf n))) (e .injections)))
 
 pub piece-short : (seen : ℕ) (s : List ℕ) (i : ℕ) → Short (getD (piecesIn seen s) i [])
 unfolding piecesIn

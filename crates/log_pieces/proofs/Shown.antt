@@ -16,7 +16,7 @@ use Rattle.log.specs.Log.{byteIn, wordIn, pairIn, injectionIn, bodyAfter, entri
 use Rattle.log.specs.Answer.{numberOf, goneIn, readOf}
 use Rattle.log.specs.Look.{entryGiven}
 use Rattle.log.specs.declared.answer.Read.{Read}
-use Rattle.log.specs.declared.answer.Read.the-variants.{Accepted, TooLong, CutShort, LeftOver, Unequal}
+use Rattle.log.specs.declared.answer.Read.the-variants.{Accepted, TooLong, CutShort, LeftOver, Unequal, WideDomain}
 use Rattle.log.specs.declared.section.Section.{Section}
 use Rattle.log.specs.declared.entry.Entry.{Entry}
 use Rattle.log.specs.declared.entry.Look.{Look}
@@ -34,6 +34,7 @@ accepted TooLong z = absurd (omega arith)
 accepted (CutShort section) z = absurd (omega arith)
 accepted LeftOver z = absurd (omega arith)
 accepted Unequal z = absurd (omega arith)
+accepted WideDomain z = absurd (omega arith)
 
 module _ (s : List ℕ) where
   abbrev Taken : Type 0

@@ -7,7 +7,7 @@ use lib.Dec.{eqb}
 use lib.ListN.{getD}
 use Rattle.bits.specs.Among.{among}
 use Rattle.edition.specs.Mask.{maskOf}
-use Rattle.log.specs.Log.{Address, Entries, entriesOf}
+use Rattle.log.specs.Log.{Address, Entries, injectionByte, domainOf, entriesOf}
 use Rattle.log.specs.Answer.{numberOf, readOf}
 use Rattle.log_text.specs.Lines.{readText, editionText, injectionText}
 use Rattle.trap_text.specs.Shown.{trapText}
@@ -27,10 +27,14 @@ seenMask e = maskOf (among (e .editions))
 abbrev pub trapPiece : ℕ → ℕ → Address → List ℕ
 trapPiece seen esr a = trapText seen (record { 0 = esr }) (record { 0 = a .far }) (record { 0 = a .hpfar })
 
+-- an injection: its own byte, and its domain
+abbrev pub injectionPiece : ℕ → List ℕ
+injectionPiece n = injectionText (injectionByte n) (domainOf n)
+
 -- the text in pieces, in their order, the traps in the editions of a mask: one for each edition, one for each trap, one for each injection
 unfoldable pub entryPieces : ℕ → Entries → List (List ℕ)
 entryPieces seen e =
-    map editionText (e .editions) ++ (zipWith (trapPiece seen) (e .syndromes) (e .addresses) ++ map injectionText (e .injections))
+    map editionText (e .editions) ++ (zipWith (trapPiece seen) (e .syndromes) (e .addresses) ++ map injectionPiece (e .injections))
 
 -- how the log was read, and what it shows
 unfoldable pub piecesIn : ℕ → List ℕ → List (List ℕ)

@@ -1,4 +1,4 @@
--- Of a log that is taken: its sections' counts, the bytes of its editions and injections, and the words of its traps, as the reader gives them.
+-- Of a log that is taken: its sections' counts, the bytes of its editions, the words of its traps and its injections, as the reader gives them.
 -- Assumes nothing.
 use mathlib.Core.Path.{_≡_, refl, sym, ap, _∙_}
 use mathlib.Core.Bool.{Bool, true, false}
@@ -11,13 +11,14 @@ use lib.Dec.{lit<}
 use lib.ListN.{length, take, drop, getD, set, length-drop}
 use lib.Seq.{drop-drop, ext-getD, getD-take, getD-set-same, getD-set-other, length-take-le}
 use Rattle.log.specs.Number.{number}
-use Rattle.log.specs.Section.{sizes, endOf, restAfter, countAfter}
-use Rattle.log.specs.Log.{Address, nowhere, byteIn, wordIn as wordAt, pairIn, entriesIn, entriesOf, bodyAfter}
+use Rattle.log.specs.Section.{injectionSize, sizes, endOf, restAfter, countAfter}
+use Rattle.log.specs.Log.{Address, nowhere, byteIn, wordIn as wordAt, pairIn, injectionIn, injectionByte, domainOf, entriesIn, entriesOf, bodyAfter}
 use Rattle.log.specs.Answer.{numberOf, readOf}
 use Rattle.log.specs.Look.{sectionAt, startAfter}
 use Rattle.log.specs.declared.answer.Read.{Read}
-use Rattle.log.specs.declared.answer.Read.the-variants.{Accepted, TooLong, CutShort, LeftOver, Unequal}
+use Rattle.log.specs.declared.answer.Read.the-variants.{Accepted, TooLong, CutShort, LeftOver, Unequal, WideDomain}
 use Rattle.log.specs.declared.entry.Place.{Place}
+use Rattle.log.specs.declared.entry.Entry.{Entry}
 use Rattle.log.specs.declared.entry.Look.{Look}
 use Rattle.log.proofs.Codec.{entries-count}
 use Rattle.log.proofs.Places.{standing, end-in}
@@ -27,7 +28,8 @@ use Rattle.log_reader.specs.Reader.{placeAfter, lookIn}
 use Rattle.log_reader.proofs.Gives.{reader-stands, reader-gives}
 use Rattle.log_writer.specs.Lists.{Lists, farsOf, hpfarsOf, listsOf}
 use Rattle.log_writer.proofs.Again.{fars-length, hpfars-length}
-use Rattle.log_rewrite.specs.Inner.{Taken, countIn, wordIn}
+use Rattle.log_rewrite.specs.Rewrite.{Taken}
+use Rattle.log_rewrite.specs.Inner.{countIn, wordIn, halfIn}
 
 pub accepted : (a : Read) → numberOf a ≡ 0 → (gone : ℕ) × (a ≡ Accepted gone)
 accepted (Accepted gone) e = (gone, refl)
@@ -35,6 +37,7 @@ accepted TooLong e = absurd (omega arith)
 accepted (CutShort section) e = absurd (omega arith)
 accepted LeftOver e = absurd (omega arith)
 accepted Unequal e = absurd (omega arith)
+accepted WideDomain e = absurd (omega arith)
 
 -- bytes that are read one by one are the bytes
 bytes-read : (n : ℕ) (s : List ℕ) → n ≤ length s → entriesIn 1 byteIn n s ≡ take n s
@@ -93,11 +96,15 @@ module _ (s : List ℕ) (t : Taken s) where
   pub few-traps : countAfter s 1 ≤ 2730
   few-traps = omega (arith, accepts s taken .short, accepts s taken .agree, ends 1 (lit< tt), ends 2 (lit< tt))
 
-  -- a buffer that holds a word of each entry of a section begins with the words of the section
-  module _ (n : ℕ) (h : n < 4) (second : Bool) (words : List ℕ) (all : length words ≡ countAfter s n)
-      (same : (i : ℕ) → i < countAfter s n → wordIn (lookIn s n i .entry) second ≡ getD words i 0) where
+  -- an injection is two bytes
+  pub few-injections : countAfter s 3 ≤ 32760
+  few-injections = omega (arith, accepts s taken .short, ends 3 (lit< tt))
+
+  -- a buffer that holds a number of each entry of a section begins with the numbers of the section
+  module _ (n : ℕ) (h : n < 4) (numberIn : Entry → ℕ) (words : List ℕ) (all : length words ≡ countAfter s n)
+      (same : (i : ℕ) → i < countAfter s n → numberIn (lookIn s n i .entry) ≡ getD words i 0) where
     words-given : (out : List ℕ) → countAfter s n ≤ length out
-        → ((i : ℕ) → i < length out → getD out i 0 ≡ wordIn (lookIn s n i .entry) second) → take (countAfter s n) out ≡ words
+        → ((i : ℕ) → i < length out → getD out i 0 ≡ numberIn (lookIn s n i .entry)) → take (countAfter s n) out ≡ words
     words-given out room holds =
         let l : length (take (countAfter s n) out) ≡ countAfter s n = length-take-le (countAfter s n) out room in
         ext-getD 0 (take (countAfter s n) out) words (l ∙ sym all)
@@ -108,7 +115,7 @@ module _ (s : List ℕ) (t : Taken s) where
         → take (countAfter s 1) out ≡ entriesOf s .syndromes
     unfolding entriesOf
     syndromes-given =
-        words-given 1 (lit< tt) false (entriesOf s .syndromes) (entries-count 8 wordAt (countAfter s 1) (bodyAfter s 1))
+        words-given 1 (lit< tt) (λ e. wordIn e false) (entriesOf s .syndromes) (entries-count 8 wordAt (countAfter s 1) (bodyAfter s 1))
         (λ i below. ap (λ (l : Look). wordIn (l .entry) false) (reader-gives s taken 1 i (lit< tt) below)) out room
 
   agree : countAfter s 1 ≡ countAfter s 2
@@ -121,7 +128,7 @@ module _ (s : List ℕ) (t : Taken s) where
     fars-given holds =
         let addresses = entriesOf s .addresses in
         ap (λ (n : ℕ). take n out) agree
-        ∙ words-given 2 (lit< tt) false (farsOf addresses) (fars-length addresses ∙ entries-count 16 pairIn (countAfter s 2) (bodyAfter s 2))
+        ∙ words-given 2 (lit< tt) (λ e. wordIn e false) (farsOf addresses) (fars-length addresses ∙ entries-count 16 pairIn (countAfter s 2) (bodyAfter s 2))
         (λ i below. ap (λ (l : Look). wordIn (l .entry) false) (reader-gives s taken 2 i (lit< tt) below) ∙ sym (fars-at addresses i))
         out (omega (arith, agree)) holds
 
@@ -131,13 +138,25 @@ module _ (s : List ℕ) (t : Taken s) where
     hpfars-given holds =
         let addresses = entriesOf s .addresses in
         ap (λ (n : ℕ). take n out) agree
-        ∙ words-given 2 (lit< tt) true (hpfarsOf addresses) (hpfars-length addresses ∙ entries-count 16 pairIn (countAfter s 2) (bodyAfter s 2))
+        ∙ words-given 2 (lit< tt) (λ e. wordIn e true) (hpfarsOf addresses) (hpfars-length addresses ∙ entries-count 16 pairIn (countAfter s 2) (bodyAfter s 2))
         (λ i below. ap (λ (l : Look). wordIn (l .entry) true) (reader-gives s taken 2 i (lit< tt) below) ∙ sym (hpfars-at addresses i))
         out (omega (arith, agree)) holds
 
+  -- an injection's own byte and its domain make its number again
+  halves : (n : ℕ) → halfIn (Entry.Injection (injectionByte n) (domainOf n)) ≡ n
+  halves n = omega arith
+
+  pub injections-given : (out : List ℕ) → countAfter s 3 ≤ length out
+      → ((i : ℕ) → i < length out → getD out i 0 ≡ halfIn (lookIn s 3 i .entry)) → take (countAfter s 3) out ≡ entriesOf s .injections
+  unfolding entriesOf
+  injections-given =
+      words-given 3 (lit< tt) halfIn (entriesOf s .injections) (entries-count injectionSize injectionIn (countAfter s 3) (bodyAfter s 3))
+      (λ i below. ap (λ (l : Look). halfIn (l .entry)) (reader-gives s taken 3 i (lit< tt) below) ∙ halves (getD (entriesOf s .injections) i 0))
+
   -- the slices that the writer is called with are the lists of the log's entries
-  module _ (n : ℕ) (count : n ≡ countAfter s 1) (e i x y z : List ℕ)
-      (editions : e ≡ entriesIn 1 byteIn (countAfter s 0) (bodyAfter s 0)) (injections : i ≡ entriesIn 1 byteIn (countAfter s 3) (bodyAfter s 3))
+  module _ (n m : ℕ) (count : n ≡ countAfter s 1) (last : m ≡ countAfter s 3) (e i x y z : List ℕ)
+      (editions : e ≡ entriesIn 1 byteIn (countAfter s 0) (bodyAfter s 0))
+      (injections : (k : ℕ) → k < length i → getD i k 0 ≡ halfIn (lookIn s 3 k .entry)) (room-i : 32760 ≤ length i)
       (syndromes : (k : ℕ) → k < length x → getD x k 0 ≡ wordIn (lookIn s 1 k .entry) false) (room-x : 2730 ≤ length x)
       (fars : (k : ℕ) → k < length y → getD y k 0 ≡ wordIn (lookIn s 2 k .entry) false) (room-y : 2730 ≤ length y)
       (hpfars : (k : ℕ) → k < length z → getD z k 0 ≡ wordIn (lookIn s 2 k .entry) true) (room-z : 2730 ≤ length z) where
@@ -145,10 +164,11 @@ module _ (s : List ℕ) (t : Taken s) where
     first-words out = ap (λ (k : ℕ). take k out) (sub-zero n ∙ count)
 
     pub lists-given : _≡_ {A = Lists}
-        record { editions = e; syndromes = take (n - 0) x; fars = take (n - 0) y; hpfars = take (n - 0) z; injections = i } (listsOf (entriesOf s))
+        record { editions = e; syndromes = take (n - 0) x; fars = take (n - 0) y; hpfars = take (n - 0) z; injections = take (m - 0) i } (listsOf (entriesOf s))
     unfolding entriesOf
     lists-given =
         let p = first-words x ∙ syndromes-given x (omega (arith, few-traps)) syndromes in
         let q = first-words y ∙ fars-given y (omega (arith, few-traps)) fars in
         let r = first-words z ∙ hpfars-given z (omega (arith, few-traps)) hpfars in
-        λ j. record { editions = editions j; syndromes = p j; fars = q j; hpfars = r j; injections = injections j }
+        let t = ap (λ (k : ℕ). take k i) (sub-zero m ∙ last) ∙ injections-given i (omega (arith, few-injections)) injections in
+        λ j. record { editions = editions j; syndromes = p j; fars = q j; hpfars = r j; injections = t j }

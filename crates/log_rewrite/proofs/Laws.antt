@@ -23,8 +23,7 @@ use Rattle.log_writer.specs.Write.{writtenOf, bufferAfter, Writing}
 use Rattle.log_writer.specs.declared.answer.Written.the-variants.{Log, NoRoom}
 use Rattle.log_writer.specs.declared.answer.Written as W
 use Rattle.log_writer.proofs.Again.{same-bytes, written-again, no-room-again}
-use Rattle.log_rewrite.specs.Inner.{Taken}
-use Rattle.log_rewrite.specs.Rewrite.{numberOf, sectionOf, lengthOf, rewriteTests, rewriteNumbers, rewrittenOf, bufferAgain, Rewriting}
+use Rattle.log_rewrite.specs.Rewrite.{Taken, numberOf, sectionOf, lengthOf, rewriteTests, rewriteNumbers, rewrittenOf, bufferAgain, Rewriting}
 use Rattle.log_rewrite.specs.declared.Rewritten.{Rewritten}
 use Rattle.log_rewrite.specs.declared.Rewritten.the-variants.{Unread, Written}
 use Rattle.log_rewrite.proofs.Given.{taken}
@@ -48,7 +47,7 @@ promised s before after a e b =
           ap sectionOf e ∙ decide-relabel sectionOf tests last
           ∙ decide-append (readSections s) (needs (leb (length s) (length before)) 0 ∷ []) 0
           ∙ ap (decide (readSections s)) (either-way (leb (length s) (length before)) 0);
-      written = subst P (sym e) (answer-is P tests last (refl, (refl, (refl, (refl, (refl, (refl, (refl, (refl, tt)))))))) refl);
+      written = subst P (sym e) (answer-is P tests last (refl, (refl, (refl, (refl, (refl, (refl, (refl, (refl, (refl, tt))))))))) refl);
       buffer = b;
     }
 
@@ -67,7 +66,8 @@ module _ (s : List ℕ) (room : ℕ) where
   by-tests =
       let P : Read → Type 0 = λ a. numberRead a ≡ 0 → ⊥ in
       first-failing P Unread (readTests s)
-      (each-refusal P s (λ z. absurd (omega arith)) (λ n p q z. absurd (omega arith)) (λ z. absurd (omega arith)) (λ z. absurd (omega arith)))
+      (each-refusal P s (λ z. absurd (omega arith)) (λ n p q z. absurd (omega arith)) (λ z. absurd (omega arith)) (λ z. absurd (omega arith))
+      (λ z. absurd (omega arith)))
 
   -- the reader's answer, where a test fails
   refuses : (f : Refuses) → Unread (readOf s) ≡ Unread (f .0)

@@ -6,7 +6,8 @@ ghost use lib.ListN.{length, getD};
 ghost use Rattle.log.specs.Section.{sizes, countAfter};
 ghost use Rattle.log.specs.Log.{byteIn, entriesIn, bodyAfter};
 ghost use Rattle.log_reader.specs.Reader.{lookIn};
-ghost use Rattle.log_rewrite.specs.Inner.{Taken, countIn, wordIn};
+ghost use Rattle.log_rewrite.specs.Rewrite.{Taken};
+ghost use Rattle.log_rewrite.specs.Inner.{countIn, wordIn, halfIn};
 use log::Entry;
 use log::Section;
 
@@ -47,7 +48,10 @@ fn word_in(entry: Entry, second: bool) -> u64
         Entry::Syndrome(esr) => esr.0,
         Entry::Address { far, hpfar } => { if second { hpfar.0 } else { far.0 } }
         Entry::Edition(_) => 0,
-        Entry::Injection(_) => 0,
+        Entry::Injection {
+            injection: _,
+            domain: _,
+        } => 0,
         Entry::None => 0,
     }
 }
@@ -67,6 +71,38 @@ pub fn words(log: &[u8], passed: u32, second: bool, out: &mut [u64])
     let mut i = 0;
     while i < out.len() {
         out[i] = word_at(log, passed, second, i);
+        i += 1;
+    }
+}
+
+// An injection as the number of its two bytes: its own, and above it its domain.
+fn half_in(entry: Entry) -> u16
+    ensures { λ n. ⌜ n ≡ halfIn entry ⌝ }
+{
+    match entry {
+        Entry::Injection { injection, domain } => injection as u16 + 256 * (domain as u16),
+        Entry::Edition(_) => 0,
+        Entry::Syndrome(_) => 0,
+        Entry::Address { far: _, hpfar: _ } => 0,
+        Entry::None => 0,
+    }
+}
+
+fn half_at(log: &[u8], i: usize) -> u16
+    ensures { λ n. ⌜ n ≡ halfIn (lookIn (now (log .entry)) 3 i .entry) ⌝ }
+{
+    let found = log_reader::look_in(log, 3, i);
+    let entry = found.entry;
+    half_in(entry)
+}
+
+// Fills a buffer with the injections.
+pub fn injections(log: &[u8], out: &mut [u16])
+    ensures { λ _. ⌜ ((i : ℕ) → i < length (now (out .exit)) → getD (now (out .exit)) i 0 ≡ halfIn (lookIn (now (log .entry)) 3 i .entry)) ⌝ }
+{
+    let mut i = 0;
+    while i < out.len() {
+        out[i] = half_at(log, i);
         i += 1;
     }
 }

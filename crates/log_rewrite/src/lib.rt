@@ -3,8 +3,7 @@ ghost use mathlib.Core.Path.{_≡_};
 ghost use Rattle.log.specs.Log.{entriesOf};
 ghost use Rattle.log_writer.specs.Lists.{listsOf};
 ghost use Rattle.log_writer.specs.Write.{Writing};
-ghost use Rattle.log_rewrite.specs.Inner.{Taken};
-ghost use Rattle.log_rewrite.specs.Rewrite.{Rewriting};
+ghost use Rattle.log_rewrite.specs.Rewrite.{Taken, Rewriting};
 
 mod entries;
 mod labelled;
@@ -21,26 +20,31 @@ pub enum Rewritten {
 // No accepted log has more traps: a syndrome and its address are 24 bytes.
 const TRAPS: usize = 2730;
 
+// Nor more injections: four counts are 16 bytes, and an injection two.
+const INJECTIONS: usize = 32760;
+
 // Writes the entries of an accepted log.
 fn written(log: &[u8], out: &mut [u8]) -> Written
     requires { ⌜ Taken (now log) ⌝ }
     ensures { λ a. ⌜ Writing (listsOf (entriesOf (now (log .entry)))) (now (out .entry)) (now (out .exit)) a ⌝ }
 {
-    let n = entries::count(log, 1);
+    let traps = entries::count(log, 1);
+    let last = entries::count(log, 3);
     let mut syndromes = [0u64; TRAPS];
     let mut fars = [0u64; TRAPS];
     let mut hpfars = [0u64; TRAPS];
+    let mut injections = [0u16; INJECTIONS];
     entries::words(log, 1, false, &mut syndromes);
     entries::words(log, 2, false, &mut fars);
     entries::words(log, 2, true, &mut hpfars);
+    entries::injections(log, &mut injections);
     let editions = entries::bytes(log, 0);
-    let injections = entries::bytes(log, 3);
     labelled::write(
         editions,
-        &syndromes[0..n],
-        &fars[0..n],
-        &hpfars[0..n],
-        injections,
+        &syndromes[0..traps],
+        &fars[0..traps],
+        &hpfars[0..traps],
+        &injections[0..last],
         out,
     )
 }

@@ -8,7 +8,7 @@ use Rattle.address.specs.declared.Far.{Far}
 use Rattle.address.specs.declared.Hpfar.{Hpfar}
 use Rattle.log.specs.Answer.{numberOf, sectionIn}
 use Rattle.log.specs.declared.answer.Read.{Read}
-use Rattle.log.specs.declared.answer.Read.the-variants.{Accepted, TooLong, CutShort, LeftOver, Unequal}
+use Rattle.log.specs.declared.answer.Read.the-variants.{Accepted, TooLong, CutShort, LeftOver, Unequal, WideDomain}
 use Rattle.record.specs.declared.kinds.Esr.{Esr}
 use Rattle.text.proofs.Numerals.{decimal-length, hex-length}
 use Rattle.log_text.specs.Lines.{decimalField, hexField, refusedText, readText, editionText, injectionText, wordsText}
@@ -31,12 +31,16 @@ read-length TooLong = refused-length TooLong
 read-length (CutShort section) = refused-length (CutShort section)
 read-length LeftOver = refused-length LeftOver
 read-length Unequal = refused-length Unequal
+read-length WideDomain = refused-length WideDomain
 
 pub edition-length : (edition : ℕ) → length (editionText edition) ≤ 128
 edition-length edition = let n = decimal-length edition in simp length-append (omega arith)
 
-pub injection-length : (injection : ℕ) → length (injectionText injection) ≤ 128
-injection-length injection = let n = decimal-length injection in simp length-append (omega arith)
+pub injection-length : (injection domain : ℕ) → length (injectionText injection domain) ≤ 128
+injection-length injection domain =
+    let n = decimal-length injection in
+    let d = decimal-length domain in
+    simp length-append (omega arith)
 
 pub words-length : (esr : Esr) (far : Far) (hpfar : Hpfar) → length (wordsText esr far hpfar) ≤ 128
 words-length esr far hpfar =

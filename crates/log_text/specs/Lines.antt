@@ -1,11 +1,11 @@
--- Request C-14: a log as lines of text, for the fitter. The first line tells how the log was read.
+-- Requests C-14 and C-21: a log as lines of text, for the fitter. The first line tells how the log was read.
 use Prim.Native.Nat.{ℕ}
 use mathlib.Core.List.{List, [], _++_}
 use Rattle.address.specs.declared.Far.{Far}
 use Rattle.address.specs.declared.Hpfar.{Hpfar}
 use Rattle.log.specs.Answer.{numberOf, sectionIn}
 use Rattle.log.specs.declared.answer.Read.{Read}
-use Rattle.log.specs.declared.answer.Read.the-variants.{Accepted, TooLong, CutShort, LeftOver, Unequal}
+use Rattle.log.specs.declared.answer.Read.the-variants.{Accepted, TooLong, CutShort, LeftOver, Unequal, WideDomain}
 use Rattle.log.specs.declared.entry.Entry.{Entry}
 use Rattle.record.specs.declared.kinds.Esr.{Esr}
 use Rattle.text.specs.Ascii.{ascii}
@@ -29,20 +29,22 @@ readText TooLong = refusedText TooLong
 readText (CutShort section) = refusedText (CutShort section)
 readText LeftOver = refusedText LeftOver
 readText Unequal = refusedText Unequal
+readText WideDomain = refusedText WideDomain
 
 -- the entries
 abbrev pub editionText : ℕ → List ℕ
 editionText edition = ascii "edition" ++ decimalField edition ++ ascii "\n"
 
-abbrev pub injectionText : ℕ → List ℕ
-injectionText injection = ascii "injection" ++ decimalField injection ++ ascii "\n"
+-- an injection with its domain
+abbrev pub injectionText : ℕ → ℕ → List ℕ
+injectionText injection domain = ascii "injection" ++ decimalField injection ++ ascii " domain" ++ decimalField domain ++ ascii "\n"
 
 -- an entry that has a line of its own; a trap's registers stand in two entries
 abbrev pub entryText : Entry → List ℕ
 entryText (Entry.Edition edition) = editionText edition
 entryText (Entry.Syndrome esr) = []
 entryText (Entry.Address far hpfar) = []
-entryText (Entry.Injection injection) = injectionText injection
+entryText (Entry.Injection injection domain) = injectionText injection domain
 entryText Entry.None = []
 
 -- the three registers of a trap

@@ -52,6 +52,7 @@ pub fn read_line(out: &mut [u8], at: usize, answer: Read) -> usize
         Read::CutShort(section) => refused(out, at, Read::CutShort(section)),
         Read::LeftOver => refused(out, at, Read::LeftOver),
         Read::Unequal => refused(out, at, Read::Unequal),
+        Read::WideDomain => refused(out, at, Read::WideDomain),
     }
 }
 
@@ -61,10 +62,14 @@ pub fn edition_line(out: &mut [u8], at: usize, edition: u8) -> usize
     numbered(out, at, b"edition", edition as u64)
 }
 
-pub fn injection_line(out: &mut [u8], at: usize, injection: u8) -> usize
-    ensures { λ end. ⌜ Appends (injectionText injection) (now (out .entry)) at (now (out .exit)) end ⌝ }
+pub fn injection_line(out: &mut [u8], at: usize, injection: u8, domain: u8) -> usize
+    ensures { λ end. ⌜ Appends (injectionText injection domain) (now (out .entry)) at (now (out .exit)) end ⌝ }
 {
-    numbered(out, at, b"injection", injection as u64)
+    let first = text::append(out, at, b"injection");
+    let second = decimal_field(out, first, injection as u64);
+    let third = text::append(out, second, b" domain");
+    let fourth = decimal_field(out, third, domain as u64);
+    text::append(out, fourth, b"\n")
 }
 
 // An entry that has a line of its own. A trap's registers stand in two entries: `words_line` shows them together.
@@ -73,7 +78,7 @@ pub fn entry_line(out: &mut [u8], at: usize, entry: Entry) -> usize
 {
     match entry {
         Entry::Edition(edition) => edition_line(out, at, edition),
-        Entry::Injection(injection) => injection_line(out, at, injection),
+        Entry::Injection { injection, domain } => injection_line(out, at, injection, domain),
         Entry::Syndrome(_) => at,
         Entry::Address { far: _, hpfar: _ } => at,
         Entry::None => at,

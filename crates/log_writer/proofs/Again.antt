@@ -1,7 +1,8 @@
--- The laws of request C-14 on reading and writing: an accepted log, its entries written again, gives the same bytes; and what was written is
+-- The laws of requests C-14 and C-21 on reading and writing: an accepted log, its entries written again, gives the same bytes; and what was written is
 -- accepted with the same entries.
 -- Assumes nothing.
 use mathlib.Core.Path.{_≡_, refl, sym, ap, _∙_}
+use mathlib.Core.Bool.{true}
 use mathlib.Core.List.{List, [], _∷_, _++_}
 use Prim.Native.Nat.{ℕ, zero, suc, _+_, _*_, _^_, _≤_, _<_, max}
 use native.Mathlib.Omega.{arith}
@@ -9,11 +10,13 @@ use lib.Dec.{lit<}
 use lib.ListN.{length, take, drop, getD}
 use lib.Seq.{take-at, drop-at}
 use Rattle.log.specs.Number.{Bytes}
-use Rattle.log.specs.Log.{Address, Entries, logOf, entriesOf}
+use Rattle.log.specs.Section.{injectionSize}
+use Rattle.log.specs.Log.{Address, Entries, domainsFit, logOf, entriesOf}
 use Rattle.log.specs.Answer.{readOf}
 use Rattle.log.specs.declared.answer.Read.the-variants.{Accepted}
 use Rattle.log.proofs.Codec.{Each}
-use Rattle.log.proofs.RoundTrip.{Fitting, PairFits, Writable, accepts, log-length, log-again, log-accepted, log-entries, entries-agree}
+use Rattle.log.proofs.Domains.{domains-fit-exactly}
+use Rattle.log.proofs.RoundTrip.{Fitting, PairFits, Writable, accepts, log-length, log-again, log-accepted, log-entries, entries-agree, entries-fit}
 use Rattle.log_writer.specs.Lists.{Lists, paired, entriesFrom, farsOf, hpfarsOf, listsOf}
 use Rattle.log_writer.specs.Write.{numberOf, lengthIn, lengthBy, writtenOf, bufferAfter}
 use Rattle.log_writer.specs.declared.answer.Written.{Written}
@@ -64,10 +67,10 @@ module _ (s : List ℕ) (b : Bytes s) {gone : ℕ} (e : readOf s ≡ Accepted go
 
   pub written-again : (room : ℕ) → length s ≤ room → writtenOf (listsOf own) room ≡ Log (length s)
   written-again room h =
-      sym (has-room (listsOf own) room short fars-agree hpfars-agree (rw same-length h)) ∙ ap Log same-length
+      sym (has-room (listsOf own) room short fars-agree hpfars-agree (entries-fit s e) (rw same-length h)) ∙ ap Log same-length
 
   pub no-room-again : (room : ℕ) → room < length s → writtenOf (listsOf own) room ≡ NoRoom
-  no-room-again room h = sym (no-room (listsOf own) room short fars-agree hpfars-agree (rw same-length h))
+  no-room-again room h = sym (no-room (listsOf own) room short fars-agree hpfars-agree (entries-fit s e) (rw same-length h))
 
 -- slices of bytes and of 64-bit words hold what fits their entries
 each : (width : ℕ) (l : List ℕ) → ((i : ℕ) → getD l i 0 < 256 ^ width) → Each (Fitting width) l
@@ -81,13 +84,13 @@ each-pair (far ∷ fars) [] f g = tt
 each-pair (far ∷ fars) (hpfar ∷ hpfars) f g =
     (record { far = f 0; hpfar = g 0 }, each-pair fars hpfars (λ i. f (suc i)) (λ i. g (suc i)))
 
--- what the slices' types say of their lists: bytes, and words of 64 bits
+-- what the slices' types say of their lists: bytes, words of 64 bits, and numbers of 16
 pub record Fits (l : Lists) : Type 0 where
   pub editions : Bytes (l .editions)
   pub syndromes : (i : ℕ) → getD (l .syndromes) i 0 < 2 ^ 64
   pub fars : (i : ℕ) → getD (l .fars) i 0 < 2 ^ 64
   pub hpfars : (i : ℕ) → getD (l .hpfars) i 0 < 2 ^ 64
-  pub injections : Bytes (l .injections)
+  pub injections : (i : ℕ) → getD (l .injections) i 0 < 2 ^ 16
 
 -- READ BACK: what was written into any buffer is accepted, with the entries that were given, and what lies past it is as it was
 module _ (l : Lists) (fits : Fits l) (before : List ℕ) {n : ℕ} (w : writtenOf l (length before) ≡ Log n) where
@@ -97,10 +100,13 @@ module _ (l : Lists) (fits : Fits l) (before : List ℕ) {n : ℕ} (w : writtenO
   abbrev after : List ℕ
   after = bufferAfter (writtenOf l (length before)) (logOf given) before
 
+  fit : domainsFit (l .injections) ≡ true
+  fit = domains-fit-exactly (l .injections) .1 (zero-exactly l (length before) .0 (ap numberOf w) .2)
+
   tests : (lengthBy l ≤ 65536) × (length (l .syndromes) ≡ length (l .fars)) × (length (l .syndromes) ≡ length (l .hpfars)) × (n ≡ lengthBy l)
   tests =
       let t = zero-exactly l (length before) .0 (ap numberOf w) in
-      let same = has-room l (length before) (t .0) (t .1 .0) (t .1 .1) (t .2) in
+      let same = has-room l (length before) (t .0) (t .1 .0) (t .1 .1) fit (t .3) in
       (t .0, t .1 .0, t .1 .1, sym (ap lengthIn (same ∙ w)))
 
   count : length (paired (l .fars) (l .hpfars)) ≡ length (l .fars)
@@ -115,8 +121,9 @@ module _ (l : Lists) (fits : Fits l) (before : List ℕ) {n : ℕ} (w : writtenO
         editions = each 1 (l .editions) (fits .editions);
         syndromes = each 8 (l .syndromes) (fits .syndromes);
         addresses = each-pair (l .fars) (l .hpfars) (fits .fars) (fits .hpfars);
-        injections = each 1 (l .injections) (fits .injections);
+        injections = each injectionSize (l .injections) (fits .injections);
         agree = tests .1 ∙ sym count;
+        domains = fit;
         short = omega (arith, whole, tests);
       }
 

@@ -19,6 +19,10 @@ sets-both [] ys l at end e = rw (e, add-zero)
 sets-both (x ∷ xs) ys l at end e = sets-both xs ys (set l at x) (suc at) end (omega arith)
 
 -- a number in its bytes, and eight bytes as twice four
+pub two-stored : (l : List ℕ) (at n : ℕ) → set (set l at (n % 256)) (at + 1) (n / 256 % 256) ≡ sets l at (little 2 n)
+unfolding little
+two-stored l at n = rw (add-one at)
+
 pub four-stored : (l : List ℕ) (at n : ℕ)
     → set (set (set (set l at (n % 256)) (at + 1) (n / 256 % 256)) (at + 2) (n / 256 / 256 % 256)) (at + 3) (n / 256 / 256 / 256 % 256)
     ≡ sets l at (little 4 n)

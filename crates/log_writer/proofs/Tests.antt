@@ -1,7 +1,7 @@
 -- The ways to an answer of the writer, by its tests; the promise that each keeps; and the four sections that a log is put together from.
 -- Assumes nothing.
 use mathlib.Core.Path.{_≡_, refl, sym, ap, _∙_, subst}
-use mathlib.Core.Bool.{cond}
+use mathlib.Core.Bool.{true, false, cond}
 use mathlib.Core.List.{List, [], _∷_, _++_, append-assoc}
 use Prim.Native.Nat.{ℕ, _+_, _*_, _≤_, _<_, min}
 use native.Mathlib.Omega.{arith}
@@ -10,12 +10,13 @@ use lib.Dec.{eqb}
 use lib.ListN.{length, drop, length-append}
 use lib.Seq.{sets, sets-eq}
 use Rattle.bits.proofs.Deciding.{decide-relabel, answer-is}
-use Rattle.log.specs.Log.{byte, word, pair, sectionBytes, logOf}
+use Rattle.log.specs.Section.{injectionSize}
+use Rattle.log.specs.Log.{byte, word, pair, injection, domainsFit, sectionBytes, logOf}
 use Rattle.log.proofs.RoundTrip.{numbers-length, pairs-length}
 use Rattle.log_writer.specs.Lists.{Lists, paired, entriesFrom}
 use Rattle.log_writer.specs.Write.{numberOf, lengthIn, lengthBy, writeTests, writtenOf, bufferAfter, Writing}
 use Rattle.log_writer.specs.declared.answer.Written.{Written}
-use Rattle.log_writer.specs.declared.answer.Written.the-variants.{Log, TooLong, Unequal, NoRoom}
+use Rattle.log_writer.specs.declared.answer.Written.the-variants.{Log, TooLong, Unequal, NoRoom, WideDomain}
 use Rattle.log_writer.proofs.Putting.{sets-both, paired-length}
 
 -- number and length follow from the answer
@@ -28,7 +29,7 @@ promised l before after a e b =
     record {
       answer = e;
       number = ap numberOf e ∙ decide-relabel numberOf tests (Log (lengthBy l));
-      written = subst P (sym e) (answer-is P tests (Log (lengthBy l)) (refl, (refl, (refl, tt))) refl);
+      written = subst P (sym e) (answer-is P tests (Log (lengthBy l)) (refl, (refl, (refl, (refl, tt)))) refl);
       buffer = b;
     }
 
@@ -53,25 +54,38 @@ module _ (l : Lists) (room : ℕ) where
           ))
 
       module _ (hpfars-agree : length (l .syndromes) ≡ length (l .hpfars)) where
-        pub no-room : room < lengthBy l → NoRoom ≡ writtenOf l room
+        pub wide-domain : domainsFit (l .injections) ≡ false → WideDomain ≡ writtenOf l room
         unfolding writtenOf
-        no-room h =
+        wide-domain wide =
             sym (simp (
               le-leb (lengthBy l) 65536 short,
               eq-eqb (length (l .syndromes)) (length (l .fars)) fars-agree,
               eq-eqb (length (l .syndromes)) (length (l .hpfars)) hpfars-agree,
-              lt-leb (lengthBy l) room h,
+              wide,
             ))
 
-        pub has-room : lengthBy l ≤ room → Log (lengthBy l) ≡ writtenOf l room
-        unfolding writtenOf
-        has-room h =
-            sym (simp (
-              le-leb (lengthBy l) 65536 short,
-              eq-eqb (length (l .syndromes)) (length (l .fars)) fars-agree,
-              eq-eqb (length (l .syndromes)) (length (l .hpfars)) hpfars-agree,
-              le-leb (lengthBy l) room h,
-            ))
+        module _ (fit : domainsFit (l .injections) ≡ true) where
+          pub no-room : room < lengthBy l → NoRoom ≡ writtenOf l room
+          unfolding writtenOf
+          no-room h =
+              sym (simp (
+                le-leb (lengthBy l) 65536 short,
+                eq-eqb (length (l .syndromes)) (length (l .fars)) fars-agree,
+                eq-eqb (length (l .syndromes)) (length (l .hpfars)) hpfars-agree,
+                fit,
+                lt-leb (lengthBy l) room h,
+              ))
+
+          pub has-room : lengthBy l ≤ room → Log (lengthBy l) ≡ writtenOf l room
+          unfolding writtenOf
+          has-room h =
+              sym (simp (
+                le-leb (lengthBy l) 65536 short,
+                eq-eqb (length (l .syndromes)) (length (l .fars)) fars-agree,
+                eq-eqb (length (l .syndromes)) (length (l .hpfars)) hpfars-agree,
+                fit,
+                le-leb (lengthBy l) room h,
+              ))
 
 -- the length that the code works out, which stops one past the longest log
 pub long-by : (n all : ℕ) → n ≡ min all 65537 → 65536 < n → 65536 < all
@@ -102,8 +116,8 @@ module _ (l : Lists) (out : List ℕ) (agree : length (l .fars) ≡ length (l .h
   addresses = sectionBytes pair (paired (l .fars) (l .hpfars))
 
   pub sections-put : (second third fourth end : ℕ) → second ≡ 0 + 4 + length (l .editions) → third ≡ second + 4 + length (l .syndromes) * 8
-      → fourth ≡ third + 4 + length (l .fars) * 16 → end ≡ fourth + 4 + length (l .injections) → end ≤ length out
-      → sets (sets (sets (sets out 0 (sectionBytes byte (l .editions))) second (sectionBytes word (l .syndromes))) third addresses) fourth (sectionBytes byte (l .injections))
+      → fourth ≡ third + 4 + length (l .fars) * 16 → end ≡ fourth + 4 + length (l .injections) * 2 → end ≤ length out
+      → sets (sets (sets (sets out 0 (sectionBytes byte (l .editions))) second (sectionBytes word (l .syndromes))) third addresses) fourth (sectionBytes injection (l .injections))
       ≡ logOf (entriesFrom l) ++ drop end out
   unfolding logOf
   sections-put second third fourth end e₂ e₃ e₄ e h =
@@ -111,6 +125,6 @@ module _ (l : Lists) (out : List ℕ) (agree : length (l .fars) ≡ length (l .h
       let l₂ = numbers-length 8 (l .syndromes) in
       let l₃ = pairs-length (paired (l .fars) (l .hpfars)) in
       let n = paired-length (l .fars) (l .hpfars) agree in
-      let l₄ = numbers-length 1 (l .injections) in
-      four-parts (sectionBytes byte (l .editions)) (sectionBytes word (l .syndromes)) addresses (sectionBytes byte (l .injections)) out
+      let l₄ = numbers-length injectionSize (l .injections) in
+      four-parts (sectionBytes byte (l .editions)) (sectionBytes word (l .syndromes)) addresses (sectionBytes injection (l .injections)) out
       second third fourth end (omega arith) (omega arith) (omega arith) (omega arith) h

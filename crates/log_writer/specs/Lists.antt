@@ -1,4 +1,5 @@
--- Request C-14: what a log writer is given, a list for each kind of word, and the entries that the lists make.
+-- Request C-14: what a log writer is given, a list for each kind of word, and the entries that the lists make. An injection is the number of its two
+-- bytes (C-21).
 use Prim.Native.Nat.{ℕ}
 use mathlib.Core.List.{List, [], _∷_}
 use Rattle.log.specs.Log.{Address, Entries}

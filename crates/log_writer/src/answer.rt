@@ -11,6 +11,8 @@ pub enum Written {
     TooLong,
     // 17: the buffer has no room.
     NoRoom,
+    // 20: the domain of an injection is above 15.
+    WideDomain,
 }
 
 // The answer's number in the definition.
@@ -22,6 +24,7 @@ pub fn number_of(answer: Written) -> u32
         Written::Unequal => 15,
         Written::TooLong => 16,
         Written::NoRoom => 17,
+        Written::WideDomain => 20,
     }
 }
 
@@ -34,5 +37,6 @@ pub fn length_in(answer: Written) -> usize
         Written::Unequal => 0,
         Written::TooLong => 0,
         Written::NoRoom => 0,
+        Written::WideDomain => 0,
     }
 }

@@ -18,13 +18,14 @@ pub struct Fars<'a>(pub &'a [u64]);
 
 pub struct Hpfars<'a>(pub &'a [u64]);
 
-// Writes a log. A refusal leaves the whole buffer as it was, and a log leaves what lies past it.
+// Writes a log. An injection is a number of two bytes: the lower is its own, the upper its domain. A refusal leaves the whole buffer as it was, and a
+// log leaves what lies past it.
 pub fn write<'a, 'b>(
     editions: &'a [u8],
     syndromes: Syndromes<'a>,
     fars: Fars<'a>,
     hpfars: Hpfars<'a>,
-    injections: &'a [u8],
+    injections: &'a [u16],
     out: &'b mut [u8],
 ) -> Written
     ensures { λ a. ⌜ Writing record { editions = now (editions .entry); syndromes = now (syndromes .entry .0); fars = now (fars .entry .0); hpfars = now (hpfars .entry .0); injections = now (injections .entry) } (now (out .entry)) (now (out .exit)) a ⌝ }

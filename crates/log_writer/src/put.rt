@@ -4,8 +4,19 @@ ghost use Prim.Native.Nat.{_+_, _*_, _≤_};
 ghost use lib.ListN.{length};
 ghost use lib.Seq.{sets};
 ghost use Rattle.log.specs.Number.{little};
-ghost use Rattle.log.specs.Log.{byte, word, pair, sectionBytes};
+ghost use Rattle.log.specs.Log.{byte, word, pair, injection, sectionBytes};
 ghost use Rattle.log_writer.specs.Lists.{paired};
+
+// The two bytes of a number.
+fn two(out: &mut [u8], at: usize, half: u16) -> usize
+    requires { ⌜ at + 2 ≤ length (now out) ⌝ }
+    ensures { λ end. ⌜ (end ≡ at + 2) × (now (out .exit) ≡ sets (now (out .entry)) at (little 2 half)) ⌝ }
+{
+    let upper = half / 256;
+    out[at] = (half % 256) as u8;
+    out[at + 1] = (upper % 256) as u8;
+    at + 2
+}
 
 // The lowest four bytes of a number.
 fn four(out: &mut [u8], at: usize, n: u64) -> usize
@@ -30,7 +41,7 @@ fn eight(out: &mut [u8], at: usize, n: u64) -> usize
     four(out, high, n / 4294967296)
 }
 
-// A section of bytes: editions or injections.
+// A section of bytes: editions.
 pub(crate) fn bytes(out: &mut [u8], at: usize, entries: &[u8]) -> usize
     requires { ⌜ at + 4 + length (now entries) ≤ length (now out) ⌝ }
     ensures { λ end. ⌜ (end ≡ at + 4 + length (now (entries .entry))) × (now (out .exit) ≡ sets (now (out .entry)) at (sectionBytes byte (now (entries .entry)))) ⌝ }
@@ -40,6 +51,20 @@ pub(crate) fn bytes(out: &mut [u8], at: usize, entries: &[u8]) -> usize
     while i < entries.len() {
         out[end] = entries[i];
         end += 1;
+        i += 1;
+    }
+    end
+}
+
+// A section of numbers of two bytes: injections.
+pub(crate) fn halves(out: &mut [u8], at: usize, entries: &[u16]) -> usize
+    requires { ⌜ at + 4 + length (now entries) * 2 ≤ length (now out) ⌝ }
+    ensures { λ end. ⌜ (end ≡ at + 4 + length (now (entries .entry)) * 2) × (now (out .exit) ≡ sets (now (out .entry)) at (sectionBytes injection (now (entries .entry)))) ⌝ }
+{
+    let mut end = four(out, at, entries.len() as u64);
+    let mut i = 0;
+    while i < entries.len() {
+        end = two(out, end, entries[i]);
         i += 1;
     }
     end

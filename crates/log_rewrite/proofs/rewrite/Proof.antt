@@ -4,7 +4,7 @@ use borrow.Author.Needs.{needs}
 use mathlib.Core.Path.{_≡_, refl, sym, ap, _∙_}
 use denote.Ref.{now}
 use Rattle.log.specs.Answer.{numberOf, readOf}
-use Rattle.log_rewrite.specs.Inner.{Taken}
+use Rattle.log_rewrite.specs.Rewrite.{Taken}
 use Rattle.log_rewrite.specs.declared.Rewritten.the-variants.{Unread}
 use Rattle.log_rewrite.proofs.Laws.{promised, refused-again, rewritten-so}
 use Rattle.log_rewrite.proofs.rewrite.Statement.{statement}

@@ -10,11 +10,11 @@ use lib.ListN.{length}
 use Rattle.log.specs.Section.{countAfter}
 use Rattle.log_writer.specs.Lists.{Lists}
 use Rattle.log_writer.specs.Write.{Writing}
-use Rattle.log_rewrite.proofs.Given.{counted, few-traps, lists-given}
+use Rattle.log_rewrite.proofs.Given.{counted, few-traps, few-injections, lists-given}
 use Rattle.log_rewrite.proofs.written.Statement.{statement}
 use Rattle.log_rewrite.proofs.written.Tie as tie
 
--- how many traps the log has
+-- how many traps and injections the log has
 traps : (c : tie.After-count) → c .count .result ≡ countAfter (now (c .before .before .before .args .log)) 1
 traps c =
     let start = c .before .before .before in
@@ -25,8 +25,16 @@ few c =
     let start = c .before .before .before in
     omega (arith, traps c, few-traps (now (start .args .log)) (start .pre))
 
+last : (c : tie.After-count2) → c .count2 .result ≡ countAfter (now (c .before .before .before .before .args .log)) 3
+last c =
+    let start = c .before .before .before .before in
+    c .count2 .ensures ∙ counted (now (start .args .log)) (start .pre) 3 (lit< tt)
+
 count-requires : tie.Need-count-requires
 count-requires c κs = search needs
+
+count-requires-2 : tie.Need-count-requires-2
+count-requires-2 c κs = search needs
 
 slice-aggregate-words : tie.Need-slice-aggregate-words
 slice-aggregate-words c = search needs
@@ -46,11 +54,14 @@ slice-aggregate-words-3 c = search needs
 words-requires-3 : tie.Need-words-requires-3
 words-requires-3 c κs = search needs
 
+slice-aggregate-injections : tie.Need-slice-aggregate-injections
+slice-aggregate-injections c = search needs
+
+injections-requires : tie.Need-injections-requires
+injections-requires c κs = search needs
+
 bytes-requires : tie.Need-bytes-requires
 bytes-requires c κs = search needs
-
-bytes-requires-2 : tie.Need-bytes-requires-2
-bytes-requires-2 c κs = search needs
 
 sub-write : tie.Need-sub-write
 sub-write c = search needs
@@ -59,7 +70,7 @@ part-write-start : tie.Need-part-write-start
 part-write-start c = search needs
 
 part-write-end : tie.Need-part-write-end
-part-write-end c = omega (arith, few (c .before .before .before .before .before .before .before .before .before .before .before .before))
+part-write-end c = omega (arith, few (c .before .before .before .before .before .before .before .before .before .before .before .before .before .before .before))
 
 sub-write-2 : tie.Need-sub-write-2
 sub-write-2 c = search needs
@@ -68,7 +79,7 @@ part-write-start-2 : tie.Need-part-write-start-2
 part-write-start-2 c = search needs
 
 part-write-end-2 : tie.Need-part-write-end-2
-part-write-end-2 c = omega (arith, few (c .before .before .before .before .before .before .before .before .before .before .before .before .before .before))
+part-write-end-2 c = omega (arith, few (c .before .before .before .before .before .before .before .before .before .before .before .before .before .before .before .before .before))
 
 sub-write-3 : tie.Need-sub-write-3
 sub-write-3 c = search needs
@@ -77,7 +88,19 @@ part-write-start-3 : tie.Need-part-write-start-3
 part-write-start-3 c = search needs
 
 part-write-end-3 : tie.Need-part-write-end-3
-part-write-end-3 c = omega (arith, few (c .before .before .before .before .before .before .before .before .before .before .before .before .before .before .before .before))
+part-write-end-3 c = omega (arith, few (c .before .before .before .before .before .before .before .before .before .before .before .before .before .before .before .before .before .before .before))
+
+sub-write-4 : tie.Need-sub-write-4
+sub-write-4 c = search needs
+
+part-write-start-4 : tie.Need-part-write-start-4
+part-write-start-4 c = search needs
+
+part-write-end-4 : tie.Need-part-write-end-4
+part-write-end-4 c =
+    let counted = c .before .before .before .before .before .before .before .before .before .before .before .before .before .before .before .before .before .before .before .before in
+    let start = counted .before .before .before .before in
+    omega (arith, last counted, few-injections (now (start .args .log)) (start .pre))
 
 write-requires : tie.Need-write-requires
 write-requires c κs = search needs
@@ -87,30 +110,35 @@ same-length c = search needs
 
 returns : tie.Need-returns
 returns c =
-    let start = c .before .before .before .before .before .before .before .before .before .before .before .before .before .before .before .before .before .before .before .before .before .before .before .before in
+    let done = c .before .before in
+    let found = done .before .before .before .before .before .before .before .before .before .before in
+    let fourth = found .before .before in
+    let third = fourth .before .before .before in
+    let second = third .before .before .before in
+    let first = second .before .before .before in
+    let counts = first .before .before in
+    let start = counts .before .before .before .before in
     let s = now (start .args .log) in
-    let first = c .before .before .before .before .before .before .before .before .before .before .before .before .before .before .before .before .before .before .before .words in
-    let second = c .before .before .before .before .before .before .before .before .before .before .before .before .before .before .before .before .words2 in
-    let third = c .before .before .before .before .before .before .before .before .before .before .before .before .before .words3 in
-    let done = c .before .before .write in
-    subst (λ (l : Lists). Writing l (now (start .args .out)) (done .last .1 .1 .1 .1 .1 .0) (done .result))
-    (lists-given s (start .pre) _ (traps (c .before .before .before .before .before .before .before .before .before .before .before .before .before .before .before .before .before .before .before .before .before)) _ _ _ _ _ (c .before .before .before .before .before .before .before .before .before .before .before .bytes .ensures) (c .before .before .before .before .before .before .before .before .before .before .bytes2 .ensures)
-    (first .ensures) (omega arith) (second .ensures) (omega arith) (third .ensures) (omega arith))
-    (done .ensures)
+    subst (λ (l : Lists). Writing l (now (start .args .out)) (done .write .last .1 .1 .1 .1 .1 .0) (done .write .result))
+    (lists-given s (start .pre) _ _ (traps (counts .before)) (last counts) _ _ _ _ _ (found .bytes .ensures) (fourth .injections2 .ensures) (omega arith)
+    (first .words .ensures) (omega arith) (second .words2 .ensures) (omega arith) (third .words3 .ensures) (omega arith))
+    (done .write .ensures)
 
 pub written-spec : {M : Type 1} → statement M
 written-spec =
     tie.close
     (tie.spec
     count-requires
+    count-requires-2
     slice-aggregate-words
     words-requires
     slice-aggregate-words-2
     words-requires-2
     slice-aggregate-words-3
     words-requires-3
+    slice-aggregate-injections
+    injections-requires
     bytes-requires
-    bytes-requires-2
     sub-write
     part-write-start
     part-write-end
@@ -120,6 +148,9 @@ written-spec =
     sub-write-3
     part-write-start-3
     part-write-end-3
+    sub-write-4
+    part-write-start-4
+    part-write-end-4
     write-requires
     same-length
     returns)

@@ -39,6 +39,12 @@ enum-told-3 c = search needs
 refused-requires-4 : tie.Need-refused-requires-4
 refused-requires-4 c κs = search needs
 
+enum-told-4 : tie.Need-enum-told-4
+enum-told-4 c = search needs
+
+refused-requires-5 : tie.Need-refused-requires-5
+refused-requires-5 c κs = search needs
+
 same-length : tie.Need-same-length
 same-length c = search needs
 
@@ -69,6 +75,12 @@ same-length-5 c = search needs
 returns-5 : tie.Need-returns-5
 returns-5 c = rw (ap readText (c .before .before .before .before .enum-told3 .given .1)) (c .before .before .refused4 .ensures)
 
+same-length-6 : tie.Need-same-length-6
+same-length-6 c = search needs
+
+returns-6 : tie.Need-returns-6
+returns-6 c = rw (ap readText (c .before .before .before .before .enum-told4 .given .1)) (c .before .before .refused5 .ensures)
+
 pub read-line-spec : {M : Type 1} → statement M
 read-line-spec =
     tie.close
@@ -84,6 +96,8 @@ read-line-spec =
     refused-requires-3
     enum-told-3
     refused-requires-4
+    enum-told-4
+    refused-requires-5
     same-length
     returns
     same-length-2
@@ -93,4 +107,6 @@ read-line-spec =
     same-length-4
     returns-4
     same-length-5
-    returns-5)
+    returns-5
+    same-length-6
+    returns-6)

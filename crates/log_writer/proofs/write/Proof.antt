@@ -24,7 +24,7 @@ use types.Run.{look, init, forget, stop, hop, fld, from, load, addr, of-opd, and
 use sound.WpLaws.{FmC, fmOf, WpFn-mono}
 use denote.RattleType.{RattleType, owns}
 use denote.Laws.{Is, shows}
-use denote.Builtin.{u8, u64}
+use denote.Builtin.{u8, u16, u64}
 use denote.Ref.{RefT, NamedLft, now}
 use denote.Signature.{plain, namedLft}
 use denote.Slice.{sliceVal, ShrSlice, MutSlice, Room, finally, slice-vals, shr-slice-tells, shr-slice-lawful, shr-slice-copy, mut-slice-tells}
@@ -77,7 +77,7 @@ abbrev Bp : Lfts 2 → RattleType
 Bp κs = P.the-row (α κs)
 
 abbrev stayed : Stays (writing.ended .signature .params) (writing.ended .kept)
-stayed = (stay-none-slice (0 ∷ []) tt (plain (λ _. u8)) yes, (stay-none Bs yes, (stay-none Bf yes, (stay-none Bp yes, (stay-none-slice (0 ∷ []) tt (plain (λ _. u8)) yes, (gave-slice (1 ∷ []) tt (plain (λ _. u8)), tt))))))
+stayed = (stay-none-slice (0 ∷ []) tt (plain (λ _. u8)) yes, (stay-none Bs yes, (stay-none Bf yes, (stay-none Bp yes, (stay-none-slice (0 ∷ []) tt (plain (λ _. u16)) yes, (gave-slice (1 ∷ []) tt (plain (λ _. u8)), tt))))))
 
 module _ {M : Type 1} (𝓤 : URA M) (H : Heap 𝓤) (A : Atoms 𝓤) (mem : Memory → SProp 𝓤) (run : Routine → Fun 𝓤) where
   -- the contract that the proof cites
@@ -123,6 +123,9 @@ module _ {M : Type 1} (𝓤 : URA M) (H : Heap 𝓤) (A : Atoms 𝓤) (W : Given
   -- what each parameter owns, and what a struct's words own
   abbrev Bytes : RefT (List ℕ) → Fml
   Bytes s = ShrSlice (named 0) κ u8 .own s (val s ∷ [])
+
+  abbrev Halves : RefT (List ℕ) → Fml
+  Halves s = ShrSlice (named 0) κ u16 .own s (val s ∷ [])
 
   abbrev Words : RefT (List ℕ) → Fml
   Words s = ShrSlice (named 0) κ u64 .own s (val s ∷ [])
@@ -170,26 +173,26 @@ module _ {M : Type 1} (𝓤 : URA M) (H : Heap 𝓤) (A : Atoms 𝓤) (W : Given
 
   asked : ent 𝓤 (onEntry 𝓤 H A lists.signature κs (q, (q′, tt)) args passed) (WriteLists 𝓤 H A mem run .pre to)
   asked =
-      qed W ((‵ (flft κ q) ⊛ ‵ (flft κ′ q′) ⊛ ‵ ftrue) ∷ ‵ (owns (ShrSlice (named 0) κ u8 ∷ ShrSlice (named 0) κ u64 ∷ ShrSlice (named 0) κ u64 ∷ ShrSlice (named 0) κ u64 ∷ ShrSlice (named 0) κ u8 ∷ MutSlice (named 1) κ′ u8 ∷ []) args passed) ∷ []) ∵ join ! $ frame ! $ done !
+      qed W ((‵ (flft κ q) ⊛ ‵ (flft κ′ q′) ⊛ ‵ ftrue) ∷ ‵ (owns (ShrSlice (named 0) κ u8 ∷ ShrSlice (named 0) κ u64 ∷ ShrSlice (named 0) κ u64 ∷ ShrSlice (named 0) κ u64 ∷ ShrSlice (named 0) κ u16 ∷ MutSlice (named 1) κ′ u8 ∷ []) args passed) ∷ []) ∵ join ! $ frame ! $ done !
 
   -- what the parameters own gives what the callee asks, and all but the buffer is kept
   apart : ent 𝓤 (onEntry 𝓤 H A writing.signature κs (q, (q′, tt)) a vals)
-      (sep 𝓤 (WriteLists 𝓤 H A mem run .pre to) (sep 𝓤 (sem 𝓤 H A (Bytes n)) (sep 𝓤 (sem 𝓤 H A OwnP) (sep 𝓤 (sem 𝓤 H A OwnF) (sep 𝓤 (sem 𝓤 H A OwnS) (sem 𝓤 H A (Bytes e)))))))
+      (sep 𝓤 (WriteLists 𝓤 H A mem run .pre to) (sep 𝓤 (sem 𝓤 H A (Halves n)) (sep 𝓤 (sem 𝓤 H A OwnP) (sep 𝓤 (sem 𝓤 H A OwnF) (sep 𝓤 (sem 𝓤 H A OwnS) (sem 𝓤 H A (Bytes e)))))))
   apart =
-      qed W ((‵ (flft κ q) ⊛ ‵ (flft κ′ q′) ⊛ ‵ ftrue) ∷ ‵ (owns (ShrSlice (named 0) κ u8 ∷ Bs κs ∷ Bf κs ∷ Bp κs ∷ ShrSlice (named 0) κ u8 ∷ MutSlice (named 1) κ′ u8 ∷ []) a vals) ∷ []) ∵
+      qed W ((‵ (flft κ q) ⊛ ‵ (flft κ′ q′) ⊛ ‵ ftrue) ∷ ‵ (owns (ShrSlice (named 0) κ u8 ∷ Bs κs ∷ Bf κs ∷ Bp κs ∷ ShrSlice (named 0) κ u16 ∷ MutSlice (named 1) κ′ u8 ∷ []) a vals) ∷ []) ∵
       move ! (1 ∷ []) $ fsplit ! $ use1 W (‵ (Bytes e) ⊛ ‵ (Bytes e)) (shr-slice-copy 𝓤 H A W (named 0) κ u8 .twice e (val e ∷ [])) $ split ! $
       move ! (2 ∷ []) $ fsplit ! $ use1 W (‵ (Words (ds .0)) ⊛ ‵ OwnS) opens-s $ split ! $
       move ! (2 ∷ []) $ fsplit ! $ use1 W (‵ (Words (df .0)) ⊛ ‵ OwnF) opens-f $ split ! $
       move ! (2 ∷ []) $ fsplit ! $ use1 W (‵ (Words (dp .0)) ⊛ ‵ OwnP) opens-p $ split ! $
-      move ! (2 ∷ []) $ fsplit ! $ use1 W (‵ (Bytes n) ⊛ ‵ (Bytes n)) (shr-slice-copy 𝓤 H A W (named 0) κ u8 .twice n (val n ∷ [])) $ split ! $
+      move ! (2 ∷ []) $ fsplit ! $ use1 W (‵ (Halves n) ⊛ ‵ (Halves n)) (shr-slice-copy 𝓤 H A W (named 0) κ u16 .twice n (val n ∷ [])) $ split ! $
       -- [injections, twice; the buffer; HPFARs' words, their struct; FARs'; syndromes'; editions, twice; the tokens]
       move ! (2 ∷ []) $ move ! (1 ∷ 0 ∷ []) $ fjoin ! $ move ! (2 ∷ 0 ∷ []) $ fjoin ! $ move ! (3 ∷ 0 ∷ []) $ fjoin ! $ move ! (4 ∷ 0 ∷ []) $ fjoin ! $ move ! (5 ∷ 0 ∷ []) $ fjoin ! $
       move ! (6 ∷ 0 ∷ []) $ use2 W (raw (WriteLists 𝓤 H A mem run .pre to)) asked $ frame ! $ frame ! $ frame ! $ frame ! $ frame ! $ done !
 
   exits : (r : Written) (u : Val) (zs : List ℕ) → Writing given-lists ys zs r → length zs ≡ length ys
-      → ent 𝓤 (⋆ 𝓤 H A (‵ (K.the-row .own r (u ∷ [])) ∷ (‵ (flft κ q) ⊛ ‵ (flft κ′ q′) ⊛ ‵ ftrue) ∷ ‵ (finally u8 γ zs) ∷ (‵ (Bytes n) ⊛ ‵ OwnP ⊛ ‵ OwnF ⊛ ‵ OwnS ⊛ ‵ (Bytes e)) ∷ [])) (Post u)
+      → ent 𝓤 (⋆ 𝓤 H A (‵ (K.the-row .own r (u ∷ [])) ∷ (‵ (flft κ q) ⊛ ‵ (flft κ′ q′) ⊛ ‵ ftrue) ∷ ‵ (finally u8 γ zs) ∷ (‵ (Halves n) ⊛ ‵ OwnP ⊛ ‵ OwnF ⊛ ‵ OwnS ⊛ ‵ (Bytes e)) ∷ [])) (Post u)
   exits r u zs p l =
-      qed W (‵ (K.the-row .own r (u ∷ [])) ∷ (‵ (flft κ q) ⊛ ‵ (flft κ′ q′) ⊛ ‵ ftrue) ∷ ‵ (finally u8 γ zs) ∷ (‵ (Bytes n) ⊛ ‵ OwnP ⊛ ‵ OwnF ⊛ ‵ OwnS ⊛ ‵ (Bytes e)) ∷ []) ∵
+      qed W (‵ (K.the-row .own r (u ∷ [])) ∷ (‵ (flft κ q) ⊛ ‵ (flft κ′ q′) ⊛ ‵ ftrue) ∷ ‵ (finally u8 γ zs) ∷ (‵ (Halves n) ⊛ ‵ OwnP ⊛ ‵ OwnF ⊛ ‵ OwnS ⊛ ‵ (Bytes e)) ∷ []) ∵
       suffices ! _ (ends-at 𝓤 H A writing.ended stayed (writing.clauses 𝓤 H A mem run) W ((κs, (q, (q′, tt)), tt, a, vals), tt) u r (tt, (tt, (tt, (tt, (tt, (zs, tt)))))) (tt, (tt, (tt, (tt, (tt, (l, tt))))))) $ says ! p $
       move ! (1 ∷ []) $ frame ! $
       -- [the result; the last list; what was kept]
@@ -197,20 +200,20 @@ module _ {M : Type 1} (𝓤 : URA M) (H : Heap 𝓤) (A : Atoms 𝓤) (W : Given
       move ! (1 ∷ []) $ split ! $ move ! (0 ∷ 2 ∷ []) $ fjoin ! $ move ! (1 ∷ []) $ split ! $ move ! (0 ∷ 2 ∷ []) $ fjoin ! $ move ! (1 ∷ 0 ∷ []) $ fjoin ! $ frame ! $ done !
 
   module _ (C : Calls 𝓤 H) (Λ : Loops 𝓤 H) (fm : FmC 𝓤 H (W .laws) C) (known : Triple 𝓤 (C #log-writer·write-lists) (WriteLists 𝓤 H A mem run)) where
-    walk : Is (ShrSlice (named 0) κ u8) e (val e ∷ []) → Holds (hasTy (S′.mir (named 0)) ms) × WT ms → Holds (hasTy (F′.mir (named 0)) mf) × WT mf → Holds (hasTy (P′.mir (named 0)) mp) × WT mp → Is (ShrSlice (named 0) κ u8) n (val n ∷ []) → Room u8 (length ys)
+    walk : Is (ShrSlice (named 0) κ u8) e (val e ∷ []) → Holds (hasTy (S′.mir (named 0)) ms) × WT ms → Holds (hasTy (F′.mir (named 0)) mf) × WT mf → Holds (hasTy (P′.mir (named 0)) mp) × WT mp → Is (ShrSlice (named 0) κ u16) n (val n ∷ []) → Room u8 (length ys)
         → ent 𝓤 (onEntry 𝓤 H A writing.signature κs (q, (q′, tt)) a vals) (WpFn 𝓤 H C Λ code.function (val e ∷ ms ∷ mf ∷ mp ∷ val n ∷ val x ∷ []) Post)
     walk pe ws wf wp pn room =
         qed W (raw (onEntry 𝓤 H A writing.signature κs (q, (q′, tt)) a vals) ∷ []) ∵ enter ! C Λ code.function (val e ∷ ms ∷ mf ∷ mp ∷ val n ∷ val x ∷ []) _ $
         alloc1 ! (λ l₀. alloc1 ! (λ l₁. alloc1 ! (λ l₂. alloc1 ! (λ l₃. alloc1 ! (λ l₄. alloc1 ! (λ l₅. alloc1 ! (λ l₆. alloc1 ! (λ l₇. alloc1 ! (λ l₈. alloc1 ! (λ l₉. alloc1 ! (λ l₁₀. alloc1 ! (λ l₁₁. alloc0 ! $ params1 ! $
         pass1 ! (init ! 20 refl (shr-slice-lawful 𝓤 H A W (named 0) κ u8 .typed e (val e ∷ []) pe .0)) $ pass1 ! (init ! 18 refl ws) $ pass1 ! (init ! 16 refl wf) $ pass1 ! (init ! 14 refl wp) $
-        pass1 ! (init ! 12 refl (shr-slice-lawful 𝓤 H A W (named 0) κ u8 .typed n (val n ∷ []) pn .0)) $ pass1 ! (init ! 10 refl (tt, (tt, (record { fits = room .0 }, tt)))) $ pass0 ! $
+        pass1 ! (init ! 12 refl (shr-slice-lawful 𝓤 H A W (named 0) κ u16 .typed n (val n ∷ []) pn .0)) $ pass1 ! (init ! 10 refl (tt, (tt, (record { fits = room .0 }, tt)))) $ pass0 ! $
         -- [_11; …; _10; …; _9; …; _8; …; _7; …; _6; …; _5; …; _4; …; _3; …; _2; …; _1; …; room for _0; …; the tokens and what the parameters own]
         assigns ! (of-opd ! (load ! (from ! (fld ! refl (stop !))) (look-in ! 18 (sub ! 0 refl (whole !))))) (from ! (stop !)) (init ! 8 refl (tt, ws .1 .0)) $
         assigns ! (of-opd ! (load ! (from ! (fld ! refl (stop !))) (look-in ! 16 (sub ! 0 refl (whole !))))) (from ! (stop !)) (init ! 6 refl (tt, wf .1 .0)) $
         assigns ! (of-opd ! (load ! (from ! (fld ! refl (stop !))) (look-in ! 14 (sub ! 0 refl (whole !))))) (from ! (stop !)) (init ! 4 refl (tt, wp .1 .0)) $
         assigns ! (addr ! (from ! (fld ! refl (hop ! (look-in ! 10 (sub ! 0 refl (whole !))) (stop !))))) (from ! (stop !)) (init ! 2 refl (tt, tt)) $
         assigns ! (agg ! (and-then ! (load ! (from ! (stop !)) (look ! 2 refl)) (and-then ! (load ! (from ! (fld ! refl (stop !))) (look-in ! 10 (sub ! 1 refl (whole !)))) (no-more !)))) (from ! (stop !)) (init ! 0 refl (tt, (tt, (record { fits = room .0 }, tt)))) $
-        move ! (24 ∷ []) $ use1 W (raw (WriteLists 𝓤 H A mem run .pre to) ⊛ ‵ (Bytes n) ⊛ ‵ OwnP ⊛ ‵ OwnF ⊛ ‵ OwnS ⊛ ‵ (Bytes e)) apart $ split ! $
+        move ! (24 ∷ []) $ use1 W (raw (WriteLists 𝓤 H A mem run .pre to) ⊛ ‵ (Halves n) ⊛ ‵ OwnP ⊛ ‵ OwnF ⊛ ‵ OwnS ⊛ ‵ (Bytes e)) apart $ split ! $
         calls-at ! fm (WriteLists 𝓤 H A mem run) known to (and-then ! (load ! (from ! (stop !)) (look ! 22 refl)) (and-then ! (load ! (from ! (stop !)) (look ! 10 refl)) (and-then ! (load ! (from ! (stop !)) (look ! 8 refl)) (and-then ! (load ! (from ! (stop !)) (look ! 6 refl)) (and-then ! (load ! (from ! (stop !)) (look ! 14 refl)) (and-then ! (load ! (from ! (stop !)) (look ! 2 refl)) (no-more !))))))) (λ u.
         use1 W (later (some (λ (r : Written). ((‵ (flft κ q) ⊛ ‵ (flft κ′ q′) ⊛ ‵ ftrue) ⊛ ‵ (K.the-row .own r (u ∷ []))) ⊛ raw (ensured 𝓤 H A lists.ended (lists.clauses 𝓤 H A mem run) κs args tt r)))) (id⊢ 𝓤 _) $ await ! tt $ pick ! (λ r.
         -- what `write_lists` ensures, at some last list
@@ -230,7 +233,7 @@ module _ {M : Type 1} (𝓤 : URA M) (H : Heap 𝓤) (A : Atoms 𝓤) (W : Given
       → Walks 𝓤 H A writing.ended stayed (WpFn 𝓤 H C Λ code.function) (writing.clauses 𝓤 H A mem run)
   write-walks C Λ fm known = walked 𝓤 H A writing.ended stayed (writing.clauses 𝓤 H A mem run) (WpFn 𝓤 H C Λ code.function)
       (λ κs. (slice-vals, (LL.vals (S.the-type (α κs)) (S′.the-laws (α κs)), (LL.vals (F.the-type (α κs)) (F′.the-laws (α κs)), (LL.vals (P.the-type (α κs)) (P′.the-laws (α κs)), (slice-vals, (slice-vals, tt)))))))
-      (λ κs. (shr-slice-tells (named 0) (κs .0) u8, (LL.tells (S.the-type (α κs)) (S′.the-laws (α κs)), (LL.tells (F.the-type (α κs)) (F′.the-laws (α κs)), (LL.tells (P.the-type (α κs)) (P′.the-laws (α κs)), (shr-slice-tells (named 0) (κs .0) u8, (mut-slice-tells (named 1) (κs .1 .0) u8, tt)))))))
+      (λ κs. (shr-slice-tells (named 0) (κs .0) u8, (LL.tells (S.the-type (α κs)) (S′.the-laws (α κs)), (LL.tells (F.the-type (α κs)) (F′.the-laws (α κs)), (LL.tells (P.the-type (α κs)) (P′.the-laws (α κs)), (shr-slice-tells (named 0) (κs .0) u16, (mut-slice-tells (named 1) (κs .1 .0) u8, tt)))))))
       (λ κs qs bounds a g are. via 𝓤 _ (fst∗ 𝓤 _ (emp 𝓤)) (walk 𝓤 H A W mem run (κs .0) (κs .1 .0) (qs .0) (qs .1 .0) (a .0) (a .1 .0) (a .1 .1 .0) (a .1 .1 .1 .0) (a .1 .1 .1 .1 .0) (a .1 .1 .1 .1 .1 .0 .ptr .0) (a .1 .1 .1 .1 .1 .0 .ptr .1) (a .1 .1 .1 .1 .1 .0 .name) (a .1 .1 .1 .1 .1 .0 .now) C Λ fm known
       (are .0)
       (LL.lawful (S.the-type (α κs)) (S′.the-laws (α κs)) 𝓤 H A W .typed (a .1 .0) _ (are .1 .0) .0)
@@ -244,7 +247,7 @@ write-meets : {M : Type 1} (𝓤 : URA M) (H : Heap 𝓤) (A : Atoms 𝓤) (W : 
     → Meets 𝓤 H A writing.signature (WpFn 𝓤 H (𝓣 .C) (𝓣 .Λ) code.function) (writing.spec 𝓤 H A mem run)
 write-meets 𝓤 H A W mem run 𝓣 known =
     walk-meets 𝓤 H A writing.ended stayed W
-    (goes-none-slice 𝓤 H A W 2 (0 ∷ []) tt (plain (λ _. u8)) yes, (goes-none 𝓤 H A W 2 Bs yes (λ κs x f. refl), (goes-none 𝓤 H A W 2 Bf yes (λ κs x f. refl), (goes-none 𝓤 H A W 2 Bp yes (λ κs x f. refl), (goes-none-slice 𝓤 H A W 2 (0 ∷ []) tt (plain (λ _. u8)) yes, (goes-gave-slice 𝓤 H A W 2 1 tt (plain (λ _. u8)), tt))))))
+    (goes-none-slice 𝓤 H A W 2 (0 ∷ []) tt (plain (λ _. u8)) yes, (goes-none 𝓤 H A W 2 Bs yes (λ κs x f. refl), (goes-none 𝓤 H A W 2 Bf yes (λ κs x f. refl), (goes-none 𝓤 H A W 2 Bp yes (λ κs x f. refl), (goes-none-slice 𝓤 H A W 2 (0 ∷ []) tt (plain (λ _. u16)) yes, (goes-gave-slice 𝓤 H A W 2 1 tt (plain (λ _. u8)), tt))))))
     (writing.clauses 𝓤 H A mem run) (WpFn 𝓤 H (𝓣 .C) (𝓣 .Λ) code.function) (WpFn-mono 𝓤 H (W .laws) 𝓣 code.function)
     (write-walks 𝓤 H A W mem run (𝓣 .C) (𝓣 .Λ) (fmOf 𝓤 H (W .laws) 𝓣) known)
 

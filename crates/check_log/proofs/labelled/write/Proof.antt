@@ -23,7 +23,7 @@ use types.Run.{look, init, forget, stop, hop, fld, from, load, addr, and-then, n
 use sound.WpLaws.{FmC, fmOf, WpFn-mono}
 use denote.RattleType.{RattleType, owns}
 use denote.Laws.{Is, shows}
-use denote.Builtin.{u8, u64}
+use denote.Builtin.{u8, u16, u64}
 use denote.Ref.{RefT, NamedLft, now}
 use denote.Signature.{plain, namedLft}
 use denote.Slice.{sliceVal, ShrSlice, MutSlice, Room, finally, slice-vals, shr-slice-tells, shr-slice-lawful, shr-slice-copy, mut-slice-tells}
@@ -75,7 +75,7 @@ abbrev Bp : Lfts 2 → RattleType
 Bp κs = P.the-row (α κs)
 
 abbrev stayed : Stays (labelled.ended .signature .params) (labelled.ended .kept)
-stayed = (stay-none-slice (0 ∷ []) tt (plain (λ _. u8)) yes, (stay-none-slice (0 ∷ []) tt (plain (λ _. u64)) yes, (stay-none-slice (0 ∷ []) tt (plain (λ _. u64)) yes, (stay-none-slice (0 ∷ []) tt (plain (λ _. u64)) yes, (stay-none-slice (0 ∷ []) tt (plain (λ _. u8)) yes, (gave-slice (1 ∷ []) tt (plain (λ _. u8)), tt))))))
+stayed = (stay-none-slice (0 ∷ []) tt (plain (λ _. u8)) yes, (stay-none-slice (0 ∷ []) tt (plain (λ _. u64)) yes, (stay-none-slice (0 ∷ []) tt (plain (λ _. u64)) yes, (stay-none-slice (0 ∷ []) tt (plain (λ _. u64)) yes, (stay-none-slice (0 ∷ []) tt (plain (λ _. u16)) yes, (gave-slice (1 ∷ []) tt (plain (λ _. u8)), tt))))))
 
 module _ {M : Type 1} (𝓤 : URA M) (H : Heap 𝓤) (A : Atoms 𝓤) (mem : Memory → SProp 𝓤) (run : Routine → Fun 𝓤) where
   -- the contract that the proof cites
@@ -123,6 +123,9 @@ module _ {M : Type 1} (𝓤 : URA M) (H : Heap 𝓤) (A : Atoms 𝓤) (W : Given
   abbrev Bytes : RefT (List ℕ) → Fml
   Bytes r = ShrSlice (named 0) κ u8 .own r (val r ∷ [])
 
+  abbrev Halves : RefT (List ℕ) → Fml
+  Halves r = ShrSlice (named 0) κ u16 .own r (val r ∷ [])
+
   abbrev Words : RefT (List ℕ) → Fml
   Words r = ShrSlice (named 0) κ u64 .own r (val r ∷ [])
 
@@ -166,26 +169,26 @@ module _ {M : Type 1} (𝓤 : URA M) (H : Heap 𝓤) (A : Atoms 𝓤) (W : Given
 
   asked : ent 𝓤 (onEntry 𝓤 H A writing.signature κs (q, (q′, tt)) args passed) (Write 𝓤 H A mem run .pre to)
   asked =
-      qed W ((‵ (flft κ q) ⊛ ‵ (flft κ′ q′) ⊛ ‵ ftrue) ∷ ‵ (owns (ShrSlice (named 0) κ u8 ∷ Bs κs ∷ Bf κs ∷ Bp κs ∷ ShrSlice (named 0) κ u8 ∷ MutSlice (named 1) κ′ u8 ∷ []) args passed) ∷ []) ∵ join ! $ frame ! $ done !
+      qed W ((‵ (flft κ q) ⊛ ‵ (flft κ′ q′) ⊛ ‵ ftrue) ∷ ‵ (owns (ShrSlice (named 0) κ u8 ∷ Bs κs ∷ Bf κs ∷ Bp κs ∷ ShrSlice (named 0) κ u16 ∷ MutSlice (named 1) κ′ u8 ∷ []) args passed) ∷ []) ∵ join ! $ frame ! $ done !
 
   -- what the parameters own gives what the callee asks, and all but the buffer is kept
   apart : ent 𝓤 (onEntry 𝓤 H A labelled.signature κs (q, (q′, tt)) a vals)
-      (sep 𝓤 (Write 𝓤 H A mem run .pre to) (sep 𝓤 (sem 𝓤 H A (Bytes n)) (sep 𝓤 (sem 𝓤 H A (Words p)) (sep 𝓤 (sem 𝓤 H A (Words f)) (sep 𝓤 (sem 𝓤 H A (Words s)) (sem 𝓤 H A (Bytes e)))))))
+      (sep 𝓤 (Write 𝓤 H A mem run .pre to) (sep 𝓤 (sem 𝓤 H A (Halves n)) (sep 𝓤 (sem 𝓤 H A (Words p)) (sep 𝓤 (sem 𝓤 H A (Words f)) (sep 𝓤 (sem 𝓤 H A (Words s)) (sem 𝓤 H A (Bytes e)))))))
   apart =
-      qed W ((‵ (flft κ q) ⊛ ‵ (flft κ′ q′) ⊛ ‵ ftrue) ∷ ‵ (owns (ShrSlice (named 0) κ u8 ∷ ShrSlice (named 0) κ u64 ∷ ShrSlice (named 0) κ u64 ∷ ShrSlice (named 0) κ u64 ∷ ShrSlice (named 0) κ u8 ∷ MutSlice (named 1) κ′ u8 ∷ []) a vals) ∷ []) ∵
+      qed W ((‵ (flft κ q) ⊛ ‵ (flft κ′ q′) ⊛ ‵ ftrue) ∷ ‵ (owns (ShrSlice (named 0) κ u8 ∷ ShrSlice (named 0) κ u64 ∷ ShrSlice (named 0) κ u64 ∷ ShrSlice (named 0) κ u64 ∷ ShrSlice (named 0) κ u16 ∷ MutSlice (named 1) κ′ u8 ∷ []) a vals) ∷ []) ∵
       move ! (1 ∷ []) $ fsplit ! $ use1 W (‵ (Bytes e) ⊛ ‵ (Bytes e)) (shr-slice-copy 𝓤 H A W (named 0) κ u8 .twice e (val e ∷ [])) $ split ! $
       move ! (2 ∷ []) $ fsplit ! $ use1 W (‵ OwnS ⊛ ‵ (Words s)) makes-s $ split ! $
       move ! (2 ∷ []) $ fsplit ! $ use1 W (‵ OwnF ⊛ ‵ (Words f)) makes-f $ split ! $
       move ! (2 ∷ []) $ fsplit ! $ use1 W (‵ OwnP ⊛ ‵ (Words p)) makes-p $ split ! $
-      move ! (2 ∷ []) $ fsplit ! $ use1 W (‵ (Bytes n) ⊛ ‵ (Bytes n)) (shr-slice-copy 𝓤 H A W (named 0) κ u8 .twice n (val n ∷ [])) $ split ! $
+      move ! (2 ∷ []) $ fsplit ! $ use1 W (‵ (Halves n) ⊛ ‵ (Halves n)) (shr-slice-copy 𝓤 H A W (named 0) κ u16 .twice n (val n ∷ [])) $ split ! $
       -- [injections, twice; the buffer; HPFARs' struct, their words; FARs'; syndromes'; editions, twice; the tokens]
       move ! (2 ∷ []) $ move ! (1 ∷ 0 ∷ []) $ fjoin ! $ move ! (2 ∷ 0 ∷ []) $ fjoin ! $ move ! (3 ∷ 0 ∷ []) $ fjoin ! $ move ! (4 ∷ 0 ∷ []) $ fjoin ! $ move ! (5 ∷ 0 ∷ []) $ fjoin ! $
       move ! (6 ∷ 0 ∷ []) $ use2 W (raw (Write 𝓤 H A mem run .pre to)) asked $ frame ! $ frame ! $ frame ! $ frame ! $ frame ! $ done !
 
   exits : (r : Written) (u : Val) (zs : List ℕ) → Writing given-lists ys zs r → length zs ≡ length ys
-      → ent 𝓤 (⋆ 𝓤 H A (‵ (K.the-row .own r (u ∷ [])) ∷ (‵ (flft κ q) ⊛ ‵ (flft κ′ q′) ⊛ ‵ ftrue) ∷ ‵ (finally u8 γ zs) ∷ (‵ (Bytes n) ⊛ ‵ (Words p) ⊛ ‵ (Words f) ⊛ ‵ (Words s) ⊛ ‵ (Bytes e)) ∷ [])) (Post u)
+      → ent 𝓤 (⋆ 𝓤 H A (‵ (K.the-row .own r (u ∷ [])) ∷ (‵ (flft κ q) ⊛ ‵ (flft κ′ q′) ⊛ ‵ ftrue) ∷ ‵ (finally u8 γ zs) ∷ (‵ (Halves n) ⊛ ‵ (Words p) ⊛ ‵ (Words f) ⊛ ‵ (Words s) ⊛ ‵ (Bytes e)) ∷ [])) (Post u)
   exits r u zs h l =
-      qed W (‵ (K.the-row .own r (u ∷ [])) ∷ (‵ (flft κ q) ⊛ ‵ (flft κ′ q′) ⊛ ‵ ftrue) ∷ ‵ (finally u8 γ zs) ∷ (‵ (Bytes n) ⊛ ‵ (Words p) ⊛ ‵ (Words f) ⊛ ‵ (Words s) ⊛ ‵ (Bytes e)) ∷ []) ∵
+      qed W (‵ (K.the-row .own r (u ∷ [])) ∷ (‵ (flft κ q) ⊛ ‵ (flft κ′ q′) ⊛ ‵ ftrue) ∷ ‵ (finally u8 γ zs) ∷ (‵ (Halves n) ⊛ ‵ (Words p) ⊛ ‵ (Words f) ⊛ ‵ (Words s) ⊛ ‵ (Bytes e)) ∷ []) ∵
       suffices ! _ (ends-at 𝓤 H A labelled.ended stayed (labelled.clauses 𝓤 H A mem run) W ((κs, (q, (q′, tt)), tt, a, vals), tt) u r (tt, (tt, (tt, (tt, (tt, (zs, tt)))))) (tt, (tt, (tt, (tt, (tt, (l, tt))))))) $ says ! h $
       move ! (1 ∷ []) $ frame ! $
       -- [the result; the last list; what was kept]
@@ -193,21 +196,21 @@ module _ {M : Type 1} (𝓤 : URA M) (H : Heap 𝓤) (A : Atoms 𝓤) (W : Given
       move ! (1 ∷ []) $ split ! $ move ! (0 ∷ 2 ∷ []) $ fjoin ! $ move ! (1 ∷ []) $ split ! $ move ! (0 ∷ 2 ∷ []) $ fjoin ! $ move ! (1 ∷ 0 ∷ []) $ fjoin ! $ frame ! $ done !
 
   module _ (C : Calls 𝓤 H) (Λ : Loops 𝓤 H) (fm : FmC 𝓤 H (W .laws) C) (known : Triple 𝓤 (C #log-writer·write) (Write 𝓤 H A mem run)) where
-    walk : Is (ShrSlice (named 0) κ u8) e (val e ∷ []) → Is (ShrSlice (named 0) κ u64) s (val s ∷ []) → Is (ShrSlice (named 0) κ u64) f (val f ∷ []) → Is (ShrSlice (named 0) κ u64) p (val p ∷ []) → Is (ShrSlice (named 0) κ u8) n (val n ∷ []) → Room u8 (length ys)
+    walk : Is (ShrSlice (named 0) κ u8) e (val e ∷ []) → Is (ShrSlice (named 0) κ u64) s (val s ∷ []) → Is (ShrSlice (named 0) κ u64) f (val f ∷ []) → Is (ShrSlice (named 0) κ u64) p (val p ∷ []) → Is (ShrSlice (named 0) κ u16) n (val n ∷ []) → Room u8 (length ys)
         → ent 𝓤 (onEntry 𝓤 H A labelled.signature κs (q, (q′, tt)) a vals) (WpFn 𝓤 H C Λ code.function (val e ∷ val s ∷ val f ∷ val p ∷ val n ∷ val x ∷ []) Post)
     walk pe ps pf pp pn room =
         qed W (raw (onEntry 𝓤 H A labelled.signature κs (q, (q′, tt)) a vals) ∷ []) ∵ enter ! C Λ code.function (val e ∷ val s ∷ val f ∷ val p ∷ val n ∷ val x ∷ []) _ $
         alloc1 ! (λ l₀. alloc1 ! (λ l₁. alloc1 ! (λ l₂. alloc1 ! (λ l₃. alloc1 ! (λ l₄. alloc1 ! (λ l₅. alloc1 ! (λ l₆. alloc1 ! (λ l₇. alloc1 ! (λ l₈. alloc1 ! (λ l₉. alloc1 ! (λ l₁₀. alloc1 ! (λ l₁₁. alloc0 ! $ params1 ! $
         pass1 ! (init ! 20 refl (shr-slice-lawful 𝓤 H A W (named 0) κ u8 .typed e (val e ∷ []) pe .0)) $ pass1 ! (init ! 18 refl (shr-slice-lawful 𝓤 H A W (named 0) κ u64 .typed s (val s ∷ []) ps .0)) $
         pass1 ! (init ! 16 refl (shr-slice-lawful 𝓤 H A W (named 0) κ u64 .typed f (val f ∷ []) pf .0)) $ pass1 ! (init ! 14 refl (shr-slice-lawful 𝓤 H A W (named 0) κ u64 .typed p (val p ∷ []) pp .0)) $
-        pass1 ! (init ! 12 refl (shr-slice-lawful 𝓤 H A W (named 0) κ u8 .typed n (val n ∷ []) pn .0)) $ pass1 ! (init ! 10 refl (tt, (tt, (record { fits = room .0 }, tt)))) $ pass0 ! $
+        pass1 ! (init ! 12 refl (shr-slice-lawful 𝓤 H A W (named 0) κ u16 .typed n (val n ∷ []) pn .0)) $ pass1 ! (init ! 10 refl (tt, (tt, (record { fits = room .0 }, tt)))) $ pass0 ! $
         -- [_11; …; _10; …; _9; …; _8; …; _7; …; _6; …; _5; …; _4; …; _3; …; _2; …; _1; …; room for _0; …; the tokens and what the parameters own]
         assigns ! (agg ! (and-then ! (load ! (from ! (stop !)) (look ! 18 refl)) (no-more !))) (from ! (stop !)) (init ! 8 refl (tt, (shr-slice-lawful 𝓤 H A W (named 0) κ u64 .typed s (val s ∷ []) ps .0 .1, tt))) $
         assigns ! (agg ! (and-then ! (load ! (from ! (stop !)) (look ! 16 refl)) (no-more !))) (from ! (stop !)) (init ! 6 refl (tt, (shr-slice-lawful 𝓤 H A W (named 0) κ u64 .typed f (val f ∷ []) pf .0 .1, tt))) $
         assigns ! (agg ! (and-then ! (load ! (from ! (stop !)) (look ! 14 refl)) (no-more !))) (from ! (stop !)) (init ! 4 refl (tt, (shr-slice-lawful 𝓤 H A W (named 0) κ u64 .typed p (val p ∷ []) pp .0 .1, tt))) $
         assigns ! (addr ! (from ! (fld ! refl (hop ! (look-in ! 10 (sub ! 0 refl (whole !))) (stop !))))) (from ! (stop !)) (init ! 2 refl (tt, tt)) $
         assigns ! (agg ! (and-then ! (load ! (from ! (stop !)) (look ! 2 refl)) (and-then ! (load ! (from ! (fld ! refl (stop !))) (look-in ! 10 (sub ! 1 refl (whole !)))) (no-more !)))) (from ! (stop !)) (init ! 0 refl (tt, (tt, (record { fits = room .0 }, tt)))) $
-        move ! (24 ∷ []) $ use1 W (raw (Write 𝓤 H A mem run .pre to) ⊛ ‵ (Bytes n) ⊛ ‵ (Words p) ⊛ ‵ (Words f) ⊛ ‵ (Words s) ⊛ ‵ (Bytes e)) apart $ split ! $
+        move ! (24 ∷ []) $ use1 W (raw (Write 𝓤 H A mem run .pre to) ⊛ ‵ (Halves n) ⊛ ‵ (Words p) ⊛ ‵ (Words f) ⊛ ‵ (Words s) ⊛ ‵ (Bytes e)) apart $ split ! $
         calls-at ! fm (Write 𝓤 H A mem run) known to (and-then ! (load ! (from ! (stop !)) (look ! 22 refl)) (and-then ! (load ! (from ! (stop !)) (look ! 10 refl)) (and-then ! (load ! (from ! (stop !)) (look ! 8 refl)) (and-then ! (load ! (from ! (stop !)) (look ! 6 refl)) (and-then ! (load ! (from ! (stop !)) (look ! 14 refl)) (and-then ! (load ! (from ! (stop !)) (look ! 2 refl)) (no-more !))))))) (λ u.
         use1 W (later (some (λ (r : Written). ((‵ (flft κ q) ⊛ ‵ (flft κ′ q′) ⊛ ‵ ftrue) ⊛ ‵ (K.the-row .own r (u ∷ []))) ⊛ raw (ensured 𝓤 H A writing.ended (writing.clauses 𝓤 H A mem run) κs args tt r)))) (id⊢ 𝓤 _) $ await ! tt $ pick ! (λ r.
         -- what `write` ensures, at some last list
@@ -227,7 +230,7 @@ module _ {M : Type 1} (𝓤 : URA M) (H : Heap 𝓤) (A : Atoms 𝓤) (W : Given
       → Walks 𝓤 H A labelled.ended stayed (WpFn 𝓤 H C Λ code.function) (labelled.clauses 𝓤 H A mem run)
   write-walks C Λ fm known = walked 𝓤 H A labelled.ended stayed (labelled.clauses 𝓤 H A mem run) (WpFn 𝓤 H C Λ code.function)
       (λ κs. (slice-vals, (slice-vals, (slice-vals, (slice-vals, (slice-vals, (slice-vals, tt)))))))
-      (λ κs. (shr-slice-tells (named 0) (κs .0) u8, (shr-slice-tells (named 0) (κs .0) u64, (shr-slice-tells (named 0) (κs .0) u64, (shr-slice-tells (named 0) (κs .0) u64, (shr-slice-tells (named 0) (κs .0) u8, (mut-slice-tells (named 1) (κs .1 .0) u8, tt)))))))
+      (λ κs. (shr-slice-tells (named 0) (κs .0) u8, (shr-slice-tells (named 0) (κs .0) u64, (shr-slice-tells (named 0) (κs .0) u64, (shr-slice-tells (named 0) (κs .0) u64, (shr-slice-tells (named 0) (κs .0) u16, (mut-slice-tells (named 1) (κs .1 .0) u8, tt)))))))
       (λ κs qs bounds a g are. via 𝓤 _ (fst∗ 𝓤 _ (emp 𝓤)) (walk 𝓤 H A W mem run (κs .0) (κs .1 .0) (qs .0) (qs .1 .0) (a .0) (a .1 .0) (a .1 .1 .0) (a .1 .1 .1 .0) (a .1 .1 .1 .1 .0) (a .1 .1 .1 .1 .1 .0 .ptr .0) (a .1 .1 .1 .1 .1 .0 .ptr .1) (a .1 .1 .1 .1 .1 .0 .name) (a .1 .1 .1 .1 .1 .0 .now) C Λ fm known
       (are .0) (are .1 .0) (are .1 .1 .0) (are .1 .1 .1 .0) (are .1 .1 .1 .1 .0) (are .1 .1 .1 .1 .1 .0 .0 .1)))
 
@@ -236,7 +239,7 @@ write-meets : {M : Type 1} (𝓤 : URA M) (H : Heap 𝓤) (A : Atoms 𝓤) (W : 
     → Meets 𝓤 H A labelled.signature (WpFn 𝓤 H (𝓣 .C) (𝓣 .Λ) code.function) (labelled.spec 𝓤 H A mem run)
 write-meets 𝓤 H A W mem run 𝓣 known =
     walk-meets 𝓤 H A labelled.ended stayed W
-    (goes-none-slice 𝓤 H A W 2 (0 ∷ []) tt (plain (λ _. u8)) yes, (goes-none-slice 𝓤 H A W 2 (0 ∷ []) tt (plain (λ _. u64)) yes, (goes-none-slice 𝓤 H A W 2 (0 ∷ []) tt (plain (λ _. u64)) yes, (goes-none-slice 𝓤 H A W 2 (0 ∷ []) tt (plain (λ _. u64)) yes, (goes-none-slice 𝓤 H A W 2 (0 ∷ []) tt (plain (λ _. u8)) yes, (goes-gave-slice 𝓤 H A W 2 1 tt (plain (λ _. u8)), tt))))))
+    (goes-none-slice 𝓤 H A W 2 (0 ∷ []) tt (plain (λ _. u8)) yes, (goes-none-slice 𝓤 H A W 2 (0 ∷ []) tt (plain (λ _. u64)) yes, (goes-none-slice 𝓤 H A W 2 (0 ∷ []) tt (plain (λ _. u64)) yes, (goes-none-slice 𝓤 H A W 2 (0 ∷ []) tt (plain (λ _. u64)) yes, (goes-none-slice 𝓤 H A W 2 (0 ∷ []) tt (plain (λ _. u16)) yes, (goes-gave-slice 𝓤 H A W 2 1 tt (plain (λ _. u8)), tt))))))
     (labelled.clauses 𝓤 H A mem run) (WpFn 𝓤 H (𝓣 .C) (𝓣 .Λ) code.function) (WpFn-mono 𝓤 H (W .laws) 𝓣 code.function)
     (write-walks 𝓤 H A W mem run (𝓣 .C) (𝓣 .Λ) (fmOf 𝓤 H (W .laws) 𝓣) known)
 

@@ -7,7 +7,7 @@ use native.Mathlib.Omega.{arith}
 use denote.Ref.{now}
 use lib.Seq.{drop-drop}
 use Rattle.log.specs.declared.entry.Entry.{Entry}
-use Rattle.log.proofs.Numbers.{number-one}
+use Rattle.log.proofs.Numbers.{number-one, low-byte, high-byte}
 use Rattle.log.proofs.entry.entry_in.Statement.{statement}
 use Rattle.log.proofs.entry.entry_in.Tie as tie
 
@@ -41,6 +41,16 @@ shared-slice-read-t15 c =
     let room = rw (last-of c) at (c .before .before .before .pre .1) in
     omega (arith, room)
 
+add-t16 : tie.Need-add-t16
+add-t16 c =
+    let room = rw (last-of c) at (c .before .before .before .pre .1) in
+    omega (arith, room)
+
+shared-slice-read-t18 : tie.Need-shared-slice-read-t18
+shared-slice-read-t18 c =
+    let room = rw (last-of (c .before)) at (c .before .before .before .before .pre .1) in
+    omega (arith, room)
+
 returns : tie.Need-returns
 returns c =
     let a = c .before .before .before .args in
@@ -57,9 +67,12 @@ returns-3 c =
 
 returns-4 : tie.Need-returns-4
 returns-4 c =
-    let a = c .before .before .before .args in
-    let room = rw (last-of c) at (c .before .before .before .pre .1) in
-    rw (last-of c) (ap Entry.Injection (number-one (now (a .log)) (a .at) (omega (arith, room))))
+    let start = c .before .before .before .before in
+    let s = now (start .args .log) in
+    let room = rw (last-of (c .before)) at (start .pre .1) in
+    let low = low-byte s (start .args .at) (λ i. c .shared-slice-known4 .given i .fits) room in
+    let high = high-byte s (start .args .at) (λ i. c .shared-slice-known4 .given i .fits) room in
+    rw (last-of (c .before), low, high)
 
 pub entry-in-spec : {M : Type 1} → statement M
 entry-in-spec =
@@ -71,6 +84,8 @@ entry-in-spec =
     add-eight
     eight-requires-3
     shared-slice-read-t15
+    add-t16
+    shared-slice-read-t18
     returns
     returns-2
     returns-3

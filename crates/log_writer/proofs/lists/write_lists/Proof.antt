@@ -9,11 +9,12 @@ use native.Mathlib.Omega.{arith}
 use denote.Ref.{now}
 use lib.ListN.{length}
 use lib.Seq.{sets}
-use Rattle.log.specs.Log.{byte, word, pair, sectionBytes}
+use Rattle.log.specs.Log.{word, pair, injection, sectionBytes}
+use Rattle.log.proofs.Found.{not-true, not-false}
 use Rattle.log_writer.specs.Lists.{Lists, paired}
 use Rattle.log_writer.specs.Write.{lengthBy}
 use Rattle.log_writer.specs.declared.answer.Written.the-variants.{Log}
-use Rattle.log_writer.proofs.Tests.{promised, too-long, other-fars, other-hpfars, no-room, has-room, long-by, short-by, sections-put}
+use Rattle.log_writer.proofs.Tests.{promised, too-long, other-fars, other-hpfars, wide-domain, no-room, has-room, long-by, short-by, sections-put}
 use Rattle.log_writer.proofs.lists.write_lists.Statement.{statement}
 use Rattle.log_writer.proofs.lists.write_lists.Tie as tie
 
@@ -45,25 +46,44 @@ returns c =
     let long = long-by _ _ (measured (c .before)) (c .if1 .taken) in
     promised (given start) (now (start .args .out)) _ _ (too-long (given start) _ long) refl
 
+domains-fit-requires : tie.Need-domains-fit-requires
+domains-fit-requires c κs = search needs
+
+-- past the first test: the length is the one by the counts, and short
+short : (c : tie.Else1) → c .before .length-by .result ≡ lengthBy (given (c .before .before .before .before .before .before .before .before .before))
+short c = short-by _ _ (measured (c .before)) (c .if1 .left)
+
 returns-2 : tie.Need-returns-2
 returns-2 c =
-    let start = c .before .before .before .before .before .before .before .before .before .before in
-    let n = short-by _ _ (measured (c .before .before)) (c .before .if1 .left) in
-    promised (given start) (now (start .args .out)) _ _ (other-fars (given start) _ (rw n at (c .before .if1 .left)) (c .if2 .taken)) refl
+    let start = c .before .before .before .before .before .before .before .before .before .before .before in
+    let first = c .before .before in
+    promised (given start) (now (start .args .out)) _ _ (other-fars (given start) _ (rw (short first) at (first .if1 .left)) (c .if2 .taken)) refl
 
 returns-3 : tie.Need-returns-3
 returns-3 c =
-    let start = c .before .before .before .before .before .before .before .before .before .before .before in
-    let n = short-by _ _ (measured (c .before .before .before)) (c .before .before .if1 .left) in
+    let start = c .before .before .before .before .before .before .before .before .before .before .before .before in
+    let first = c .before .before .before in
     promised (given start) (now (start .args .out)) _ _
-    (other-hpfars (given start) _ (rw n at (c .before .before .if1 .left)) (c .before .if2 .left) (c .if3 .taken)) refl
+    (other-hpfars (given start) _ (rw (short first) at (first .if1 .left)) (c .before .if2 .left) (c .if3 .taken)) refl
 
 returns-4 : tie.Need-returns-4
 returns-4 c =
-    let start = c .before .before .before .before .before .before .before .before .before .before .before .before in
-    let n = short-by _ _ (measured (c .before .before .before .before)) (c .before .before .before .if1 .left) in
+    let start = c .before .before .before .before .before .before .before .before .before .before .before .before .before in
+    let first = c .before .before .before .before in
+    let domains = c .before .before .before .domains-fit in
     promised (given start) (now (start .args .out)) _ _
-    (no-room (given start) _ (rw n at (c .before .before .before .if1 .left)) (c .before .before .if2 .left) (c .before .if3 .left) (rw n at (c .if4 .taken)))
+    (wide-domain (given start) _ (rw (short first) at (first .if1 .left)) (c .before .before .if2 .left) (c .before .if3 .left)
+    (sym (domains .ensures) ∙ not-true (domains .result) (c .if4 .taken)))
+    refl
+
+returns-5 : tie.Need-returns-5
+returns-5 c =
+    let start = c .before .before .before .before .before .before .before .before .before .before .before .before .before .before in
+    let first = c .before .before .before .before .before in
+    let domains = c .before .before .before .before .domains-fit in
+    promised (given start) (now (start .args .out)) _ _
+    (no-room (given start) _ (rw (short first) at (first .if1 .left)) (c .before .before .before .if2 .left) (c .before .before .if3 .left)
+    (sym (domains .ensures) ∙ not-false (domains .result) (c .before .if4 .left)) (rw (short first) at (c .if5 .taken)))
     refl
 
 bytes-requires : tie.Need-bytes-requires
@@ -75,28 +95,37 @@ words-requires c κs = search needs
 pairs-requires : tie.Need-pairs-requires
 pairs-requires c κs = search needs
 
-bytes-requires-2 : tie.Need-bytes-requires-2
-bytes-requires-2 c κs = search needs
+halves-requires : tie.Need-halves-requires
+halves-requires c κs = search needs
 
 same-length : tie.Need-same-length
 same-length c = search needs
 
-returns-5 : tie.Need-returns-5
-returns-5 c =
+returns-6 : tie.Need-returns-6
+returns-6 c =
     let k = c .before .before .before .before .before .before .before .before .before .before .before .before .before .before .before .before in
-    let start = k .before .before .before .before .before .before .before .before .before .before .before .before in
+    let first = k .before .before .before .before .before in
+    let start = first .before .before .before .before .before .before .before .before .before in
     let a = start .args in
-    let n = short-by _ _ (measured (k .before .before .before .before)) (k .before .before .before .if1 .left) in
-    let fars = k .before .before .if2 .left in
-    let hpfars = k .before .if3 .left in
-    let first = c .before .before .before .before .before .before .before .before .before .before .before .before .before .before .bytes .ensures in
-    let second = c .before .before .before .before .before .before .before .before .before .before .words .ensures in
-    let third = c .before .before .before .before .before .before .pairs .ensures in
-    let last = c .before .before .bytes2 .ensures in
+    let n = short first in
+    let fars = k .before .before .before .if2 .left in
+    let hpfars = k .before .before .if3 .left in
+    let domains = k .before .before .before .before .domains-fit in
+    let one = c .before .before .before .before .before .before .before .before .before .before .before .before .before .before .bytes in
+    let two = c .before .before .before .before .before .before .before .before .before .before .words in
+    let three = c .before .before .before .before .before .before .pairs in
+    let four = c .before .before .halves in
     promised (given start) (now (a .out)) _ _
-    (ap Log n ∙ has-room (given start) _ (rw n at (k .before .before .before .if1 .left)) fars hpfars (rw n at (k .if4 .left)))
-    (last .1 ∙ ap (λ l. sets l (c .before .before .before .before .before .before .pairs .result) (sectionBytes byte (now (a .injections)))) (third .1 ∙ ap (λ l. sets l (c .before .before .before .before .before .before .before .before .before .before .words .result) (sectionBytes pair (paired (now (a .fars)) (now (a .hpfars))))) (second .1 ∙ ap (λ l. sets l (c .before .before .before .before .before .before .before .before .before .before .before .before .before .before .bytes .result) (sectionBytes word (now (a .syndromes)))) (first .1)))
-    ∙ sections-put (given start) (now (a .out)) (sym fars ∙ hpfars) _ _ _ _ (first .0) (second .0) (third .0) (omega (arith, n, fars, hpfars, first .0, second .0, third .0)) (k .if4 .left))
+    (ap Log n
+    ∙ has-room (given start) _ (rw n at (first .if1 .left)) fars hpfars (sym (domains .ensures) ∙ not-false (domains .result) (k .before .if4 .left))
+    (rw n at (k .if5 .left)))
+    (four .ensures .1
+    ∙ ap (λ l. sets l (three .result) (sectionBytes injection (now (a .injections))))
+    (three .ensures .1
+    ∙ ap (λ l. sets l (two .result) (sectionBytes pair (paired (now (a .fars)) (now (a .hpfars)))))
+    (two .ensures .1 ∙ ap (λ l. sets l (one .result) (sectionBytes word (now (a .syndromes)))) (one .ensures .1)))
+    ∙ sections-put (given start) (now (a .out)) (sym fars ∙ hpfars) _ _ _ _ (one .ensures .0) (two .ensures .0) (three .ensures .0)
+    (omega (arith, n, fars, hpfars, one .ensures .0, two .ensures .0, three .ensures .0)) (k .if5 .left))
 
 pub write-lists-spec : {M : Type 1} → statement M
 write-lists-spec =
@@ -105,12 +134,14 @@ write-lists-spec =
     larger-requires
     length-by-requires
     returns
+    domains-fit-requires
     returns-2
     returns-3
     returns-4
+    returns-5
     bytes-requires
     words-requires
     pairs-requires
-    bytes-requires-2
+    halves-requires
     same-length
-    returns-5)
+    returns-6)
