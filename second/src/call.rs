@@ -194,8 +194,9 @@ impl Call {
                 let record = Record::from_row(&SHORT, record)?;
                 Some(Call::Widen { mode: narrow(*mode)?, record })
             }
-            (b"inject" | b"lent", &[kind, fault, level, address, write, ref state @ ..]) => {
-                let injection = injection_of([kind, fault, level, address, write])?;
+            (b"inject" | b"lent", row) => {
+                let (injection, state) = row.split_first_chunk::<6>()?;
+                let injection = injection_of(*injection)?;
                 let state = State::from_numbers(state)?;
                 Some(Call::Inject { lent: name == b"lent", injection, state })
             }
@@ -491,20 +492,20 @@ fn trap_row(trap: &Trap) -> Vec<u64> {
     [trap.record.row(), virtual_address, intermediate].concat()
 }
 
-/// Kind, fault, level, address and write. What an injection or fault lacks
-/// is shown as 0.
+/// Kind, fault, level, address, write and domain. What an injection or fault
+/// lacks is shown as 0.
 fn injection_row(injection: &Injection) -> Vec<u64> {
     match *injection {
-        Injection::UndefinedAt => row![0u8, 0u8, 0u8, 0u8, 0u8],
-        Injection::UndefinedAfter => row![1u8, 0u8, 0u8, 0u8, 0u8],
-        Injection::SupervisorCall => row![2u8, 0u8, 0u8, 0u8, 0u8],
+        Injection::UndefinedAt => row![0u8, 0u8, 0u8, 0u8, 0u8, 0u8],
+        Injection::UndefinedAfter => row![1u8, 0u8, 0u8, 0u8, 0u8, 0u8],
+        Injection::SupervisorCall => row![2u8, 0u8, 0u8, 0u8, 0u8, 0u8],
         Injection::PrefetchAbort { fault, address } => {
             let [fault, level] = fault_numbers(fault);
-            row![3u8, fault, level, address, 0u8]
+            row![3u8, fault, level, address, 0u8, 0u8]
         }
-        Injection::DataAbort { fault, address, write } => {
+        Injection::DataAbort { fault, address, write, domain } => {
             let [fault, level] = fault_numbers(fault);
-            row![4u8, fault, level, address, write]
+            row![4u8, fault, level, address, write, domain]
         }
     }
 }
@@ -519,17 +520,18 @@ fn fault_numbers(fault: Fault) -> [u8; 2] {
     }
 }
 
-fn injection_of(numbers: [u64; 5]) -> Option<Injection> {
+fn injection_of(numbers: [u64; 6]) -> Option<Injection> {
     match numbers {
-        [0, 0, 0, 0, 0] => Some(Injection::UndefinedAt),
-        [1, 0, 0, 0, 0] => Some(Injection::UndefinedAfter),
-        [2, 0, 0, 0, 0] => Some(Injection::SupervisorCall),
-        [3, fault, level, address, 0] => {
+        [0, 0, 0, 0, 0, 0] => Some(Injection::UndefinedAt),
+        [1, 0, 0, 0, 0, 0] => Some(Injection::UndefinedAfter),
+        [2, 0, 0, 0, 0, 0] => Some(Injection::SupervisorCall),
+        [3, fault, level, address, 0, 0] => {
             Some(Injection::PrefetchAbort { fault: fault_of(fault, level)?, address })
         }
-        [4, fault, level, address, write @ (0 | 1)] => {
+        [4, fault, level, address, write @ (0 | 1), domain] => {
             let fault = fault_of(fault, level)?;
-            Some(Injection::DataAbort { fault, address, write: write == 1 })
+            let domain = u8::try_from(domain).ok()?;
+            Some(Injection::DataAbort { fault, address, write: write == 1, domain })
         }
         _ => None,
     }
@@ -571,16 +573,20 @@ mod tests {
             "write 0 0 0 2".into(),
             "write 0 a 0".into(),
             "write 0 0 100000000 1".into(),
-            format!("inject 0 0 0 0 1{state}"),
-            format!("inject 0 1 0 0 0{state}"),
-            format!("inject 3 0 0 0 1{state}"),
-            format!("inject 3 4 1 0 0{state}"),
-            format!("inject 3 1 100 0 0{state}"),
-            format!("inject 4 1 1 0 2{state}"),
-            format!("inject 5 0 0 0 0{state}"),
-            format!("inject 0 0 0 0 0{state} 0"),
-            format!("inject 0 0 0 0 0{} 0 0 2", " 0".repeat(45)),
-            format!("inject 0 0 0 0 0{}", " 0".repeat(45)),
+            format!("inject 0 0 0 0 1 0{state}"),
+            format!("inject 0 0 0 0 0 1{state}"),
+            format!("inject 0 1 0 0 0 0{state}"),
+            format!("inject 3 0 0 0 1 0{state}"),
+            format!("inject 3 0 0 0 0 1{state}"),
+            format!("inject 3 4 1 0 0 0{state}"),
+            format!("inject 3 1 100 0 0 0{state}"),
+            format!("inject 4 1 1 0 2 0{state}"),
+            format!("inject 4 1 1 0 0 100{state}"),
+            format!("inject 4 1 1 0 0{state}"),
+            format!("inject 5 0 0 0 0 0{state}"),
+            format!("inject 0 0 0 0 0 0{state} 0"),
+            format!("inject 0 0 0 0 0 0{} 0 0 2", " 0".repeat(45)),
+            format!("inject 0 0 0 0 0 0{}", " 0".repeat(45)),
             "spsr 0 2 0 10".into(),
             "spsr 0 0 0 100000000".into(),
             "spsr 0 0 10".into(),
@@ -610,6 +616,7 @@ mod tests {
             "carry 1 2 5 1 0 f",
             "widen 1f 0 22 0",
             "spsr 1 0 1 1000010",
+            &format!("inject 4 2 2 8000 1 ff{}", " 0".repeat(48)),
             &format!("runlent{} 0 2 1 20 90 30", " 0".repeat(48)),
         ] {
             assert_eq!(Call::parse(line.as_bytes()).expect("a row").line(), line);

@@ -140,6 +140,7 @@ fn data_abort(before: State, [status, link, pc, dfsr]: [u32; 4]) -> InjectionCas
             fault: Fault::Translation(2),
             address: 0x5678,
             write: true,
+            domain: 0,
         },
         before,
         after,

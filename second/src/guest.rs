@@ -132,7 +132,7 @@ pub enum Injection {
     UndefinedAfter,
     SupervisorCall,
     PrefetchAbort { fault: Fault, address: u64 },
-    DataAbort { fault: Fault, address: u64, write: bool },
+    DataAbort { fault: Fault, address: u64, write: bool, domain: u8 },
 }
 
 /// What may wait for a guest.
@@ -304,7 +304,7 @@ fn modulo_2_32(number: i64) -> u32 {
     number.rem_euclid(1 << 32) as u32
 }
 
-/// Tests 11 and 12, and what an abort writes when they pass.
+/// Tests 11, 20 and 12, and what an abort writes when they pass.
 fn fault_report(format: Format, injection: &Injection) -> Result<Option<FaultReport>, u8> {
     match *injection {
         Injection::PrefetchAbort { fault, address } => {
@@ -315,13 +315,25 @@ fn fault_report(format: Format, injection: &Injection) -> Result<Option<FaultRep
             let ifar = u32::try_from(address).map_err(|_| 12)?;
             Ok(Some(FaultReport::Instruction { ifsr, ifar }))
         }
-        Injection::DataAbort { fault, address, write } => {
-            let wnr = u32::from(write) << 11;
-            let dfsr = fault_status(format, fault).ok_or(11)? + wnr;
+        Injection::DataAbort { fault, address, write, domain } => {
+            let status = fault_status(format, fault).ok_or(11)?;
+            if !(0..=15).contains(&domain) {
+                return Err(20);
+            }
             let dfar = u32::try_from(address).map_err(|_| 12)?;
+            let wnr = u32::from(write) << 11;
+            let dfsr = status + wnr + 16 * u32::from(reported_domain(format, fault, domain));
             Ok(Some(FaultReport::Data { dfsr, dfar }))
         }
         _ => Ok(None),
+    }
+}
+
+/// What DFSR's Domain field, bits 7:4 of the short format, holds.
+fn reported_domain(format: Format, fault: Fault, domain: u8) -> u8 {
+    match (format, fault) {
+        (Format::Short, Fault::Translation(2) | Fault::AccessFlag(2)) => domain,
+        _ => 0,
     }
 }
 
@@ -363,5 +375,35 @@ fn long_status(fault: Fault) -> Option<u32> {
         Fault::Permission(3) => Some(0b001111),
         Fault::Alignment => Some(0b100001),
         _ => None,
+    }
+}
+
+#[cfg(test)]
+mod tests {
+    use super::*;
+    use crate::cases::state;
+
+    /// DFSR after a data abort by a write, in the short format.
+    fn dfsr(fault: Fault, domain: u8) -> Result<u32, u8> {
+        let injection = Injection::DataAbort { fault, address: 0x8000, write: true, domain };
+        inject(&state(0x10, 0x8000, 0), &injection).map(|after| after.dfsr)
+    }
+
+    #[test]
+    fn a_domain_is_told_of_two_faults() {
+        assert_eq!(dfsr(Fault::Translation(2), 0), Ok(0x807));
+        assert_eq!(dfsr(Fault::Translation(2), 15), Ok(0x8f7));
+        assert_eq!(dfsr(Fault::AccessFlag(2), 9), Ok(0x896));
+        assert_eq!(dfsr(Fault::Translation(1), 9), Ok(0x805));
+        assert_eq!(dfsr(Fault::Permission(2), 9), Ok(0x80f));
+        assert_eq!(dfsr(Fault::External, 9), Ok(0x808));
+    }
+
+    /// 11 before 20, 20 whatever the fault.
+    #[test]
+    fn a_domain_above_15_is_refused() {
+        assert_eq!(dfsr(Fault::Translation(2), 16), Err(20));
+        assert_eq!(dfsr(Fault::Alignment, 255), Err(20));
+        assert_eq!(dfsr(Fault::Translation(3), 16), Err(11));
     }
 }

@@ -1,4 +1,4 @@
-//! Trap logs (request C-14): read and written by chopping a list of bytes, and
+//! Trap logs (requests C-14 and C-21): read and written by chopping a list of bytes, and
 //! the logs that the gate runs the proved code on.
 //!
 //! A log is never measured beforehand. Reading takes bytes off the front until
@@ -16,13 +16,23 @@ use std::fmt::Write;
 
 pub const LONGEST: usize = 65_536;
 
+pub const LARGEST_DOMAIN: u8 = 15;
+
 /// What a log carries.
 #[derive(Clone, Debug, Default, PartialEq, Eq)]
 pub struct Log {
     pub editions: Vec<u8>,
     pub syndromes: Vec<u64>,
     pub addresses: Vec<(u64, u64)>,
-    pub injections: Vec<u8>,
+    /// An injection's own byte, and its domain.
+    pub injections: Vec<(u8, u8)>,
+}
+
+impl Log {
+    /// Whether no domain is too large, whatever its injection.
+    fn domains_fit(&self) -> bool {
+        self.injections.iter().all(|&(_, domain)| domain <= LARGEST_DOMAIN)
+    }
 }
 
 /// A refusal: its number, and for number 13 the section.
@@ -47,6 +57,9 @@ fn number(bytes: &[u8]) -> u64 {
     bytes.iter().rev().fold(0, |value, &byte| value << 8 | u64::from(byte))
 }
 
+/// How many bytes an entry of each section has.
+const SIZES: [usize; 4] = [1, 8, 16, 2];
+
 /// The entries of a section, each as its bytes.
 fn section<'a>(rest: &mut &'a [u8], size: usize) -> Option<Vec<&'a [u8]>> {
     let count = number(chop(rest, 4)?);
@@ -65,7 +78,7 @@ pub fn read(bytes: &[u8]) -> Result<(Log, usize), Refusal> {
     let mut rest = bytes;
     let mut gone = 0;
     let mut sections = Vec::new();
-    for (at, size) in [1, 8, 16, 1].into_iter().enumerate() {
+    for (at, size) in SIZES.into_iter().enumerate() {
         let cut = Refusal { number: 13, section: at as u8 + 1 };
         let entries = section(&mut rest, size).ok_or(cut)?;
         gone += 1 + entries.len();
@@ -74,24 +87,40 @@ pub fn read(bytes: &[u8]) -> Result<(Log, usize), Refusal> {
     if !rest.is_empty() {
         return Err(refused(14));
     }
-    let byte = |entry: &&[u8]| number(entry) as u8;
     let log = Log {
-        editions: sections[0].iter().map(byte).collect(),
+        editions: sections[0].iter().map(|entry| entry[0]).collect(),
         syndromes: sections[1].iter().map(|entry| number(entry)).collect(),
         addresses: sections[2]
             .iter()
             .map(|entry| (number(&entry[..8]), number(&entry[8..])))
             .collect(),
-        injections: sections[3].iter().map(byte).collect(),
+        injections: sections[3].iter().map(|entry| (entry[0], entry[1])).collect(),
     };
     if log.syndromes.len() != log.addresses.len() {
         return Err(refused(15));
+    }
+    if !log.domains_fit() {
+        return Err(refused(20));
     }
     Ok((log, gone))
 }
 
 /// The bytes of a log, whatever it carries.
 pub fn bytes(log: &Log) -> Vec<u8> {
+    let mut bytes = without_injections(log);
+    bytes.extend(log.injections.iter().flat_map(|&(injection, domain)| [injection, domain]));
+    bytes
+}
+
+/// The bytes that a log had before request C-21: an injection was its own byte alone.
+pub fn older(log: &Log) -> Vec<u8> {
+    let mut bytes = without_injections(log);
+    bytes.extend(log.injections.iter().map(|&(injection, _)| injection));
+    bytes
+}
+
+/// All but the injections themselves.
+fn without_injections(log: &Log) -> Vec<u8> {
     let mut bytes = Vec::new();
     let count = |bytes: &mut Vec<u8>, entries: usize| bytes.extend((entries as u32).to_le_bytes());
     count(&mut bytes, log.editions.len());
@@ -104,7 +133,6 @@ pub fn bytes(log: &Log) -> Vec<u8> {
         bytes.extend(hpfar.to_le_bytes());
     }
     count(&mut bytes, log.injections.len());
-    bytes.extend(&log.injections);
     bytes
 }
 
@@ -133,8 +161,8 @@ pub fn shown(bytes: &[u8]) -> String {
             text += &line_in(&catalogue, edition, Registers { esr, far, hpfar });
         }
     }
-    for injection in &log.injections {
-        let _ = writeln!(text, "injection {injection}");
+    for (injection, domain) in &log.injections {
+        let _ = writeln!(text, "injection {injection} domain {domain}");
     }
     text
 }
@@ -183,7 +211,7 @@ fn example() -> Log {
         editions: vec![3, 0, 200, 3, 7, 1, 0, 16],
         syndromes: traps.iter().map(|trap| trap.0).collect(),
         addresses: traps.iter().map(|trap| (trap.1, trap.2)).collect(),
-        injections: vec![0, 4, 255, 1],
+        injections: vec![(0, 0), (4, 15), (255, 7), (1, 1)],
     }
 }
 
@@ -194,7 +222,9 @@ fn random(random: &mut Random, most: u64) -> Log {
         editions: (0..random.below(most)).map(|_| random.next() as u8).collect(),
         syndromes: (0..traps).map(|_| random.next()).collect(),
         addresses: (0..traps).map(|_| (random.next(), random.next())).collect(),
-        injections: (0..random.below(most)).map(|_| random.next() as u8).collect(),
+        injections: (0..random.below(most))
+            .map(|_| (random.next() as u8, random.below(16) as u8))
+            .collect(),
     }
 }
 
@@ -202,6 +232,33 @@ fn random(random: &mut Random, most: u64) -> Log {
 fn filled(size: usize) -> Log {
     let editions = vec![5; size - 16];
     Log { editions, ..Log::default() }
+}
+
+/// A log with other injections: every domain up to 16 and the largest bytes, beside
+/// first bytes of every kind, at the first place and at the last; with counts that
+/// differ and with a byte left over; and the older form of them all.
+fn domains(log: &Log) -> Vec<Vec<u8>> {
+    let injected = |injections: Vec<(u8, u8)>| Log { injections, ..log.clone() };
+    let mut logs = Vec::new();
+    for domain in (0..=16).chain([31, 128, 240, 255]) {
+        for first in [0, 4, 15, 16, 255] {
+            logs.push(injected(vec![(first, domain)]));
+        }
+        logs.push(injected(vec![(255, 0), (0, 15), (3, domain)]));
+        logs.push(injected(vec![(4, domain), (255, 15), (16, 0)]));
+    }
+    let mut asked = Vec::new();
+    for one in logs {
+        let mut uneven = one.clone();
+        uneven.syndromes.push(0);
+        asked.push(bytes(&uneven));
+        asked.push([&bytes(&one)[..], &[0]].concat());
+        asked.push(bytes(&one));
+    }
+    let older_ones = (0..6).map(|count| injected(vec![(0, 0); count]));
+    let others = [vec![(7, 0)], vec![(7, 0), (3, 0)], vec![(2, 0), (0, 0), (16, 0), (255, 0)]];
+    asked.extend(older_ones.chain(others.into_iter().map(injected)).map(|log| older(&log)));
+    asked
 }
 
 /// Good, cut, overlong and damaged logs.
@@ -213,8 +270,9 @@ fn logs() -> Vec<Vec<u8>> {
         editions: vec![200, 1],
         syndromes: vec![0x9200_0005],
         addresses: vec![(0x8abc, 0x1_2340)],
-        injections: vec![7],
+        injections: vec![(7, 3)],
     };
+    logs.extend(domains(&short));
     let short = bytes(&short);
     logs.extend((0..short.len()).map(|size| short[..size].to_vec()));
     logs.push([&short[..], &[0]].concat());
@@ -230,7 +288,7 @@ fn logs() -> Vec<Vec<u8>> {
     }));
     // A count near 2^32 in each section, which 32 bits of its product would let pass.
     for place in [0, 6, 18, 38] {
-        for count in [0xffff_ffff_u32, 0x8000_0000, 0x2000_0001, 0x1000_0001] {
+        for count in [0xffff_ffff_u32, 0x8000_0001, 0x8000_0000, 0x2000_0001, 0x1000_0001] {
             let mut damaged = short.clone();
             damaged[place..place + 4].copy_from_slice(&count.to_le_bytes());
             logs.push(damaged);
@@ -300,10 +358,33 @@ mod tests {
     }
 
     #[test]
+    fn a_domain_is_judged_by_its_size_alone_and_last() {
+        for first in 0..=255 {
+            for domain in 0..=255 {
+                let mut log = Log { injections: vec![(first, domain)], ..Log::default() };
+                let expected = (domain > 15).then_some((20, 0));
+                assert_eq!(refusal(&bytes(&log)), expected);
+                log.syndromes.push(0);
+                assert_eq!(refusal(&bytes(&log)), Some((15, 0)));
+            }
+        }
+    }
+
+    #[test]
+    fn an_older_log_is_refused_exactly_where_it_has_an_injection() {
+        let mut generator = Random::seeded(21);
+        for _ in 0..200 {
+            let log = random(&mut generator, 9);
+            let answer = refusal(&older(&log));
+            assert_eq!(answer, (!log.injections.is_empty()).then_some((13, 4)));
+        }
+    }
+
+    #[test]
     fn the_logs_have_every_answer() {
         let numbers: BTreeSet<u8> =
             logs().iter().map(|log| refusal(log).map_or(0, |r| r.0)).collect();
-        assert_eq!(numbers, BTreeSet::from([0, 13, 14, 15, 16]));
+        assert_eq!(numbers, BTreeSet::from([0, 13, 14, 15, 16, 20]));
         let sections: BTreeSet<u8> =
             logs().iter().filter_map(|log| refusal(log)).map(|r| r.1).collect();
         assert_eq!(sections, BTreeSet::from([0, 1, 2, 3, 4]));

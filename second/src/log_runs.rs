@@ -1,7 +1,7 @@
 //! The logs that the proved log reader is run on: every edition, every refusal,
 //! the longest log and one byte more, and hundreds of traps.
 
-use crate::log::{bytes, Log, LONGEST};
+use crate::log::{bytes, older, Log, LONGEST};
 use crate::random::Random;
 
 /// A trap's ESR, FAR and HPFAR.
@@ -35,7 +35,7 @@ const TRAPS: [Trap; 18] = [
     (0x4a01_0000, 0, 0),
 ];
 
-fn log(editions: Vec<u8>, traps: &[Trap], injections: Vec<u8>) -> Log {
+fn log(editions: Vec<u8>, traps: &[Trap], injections: Vec<(u8, u8)>) -> Log {
     Log {
         editions,
         syndromes: traps.iter().map(|trap| trap.0).collect(),
@@ -47,7 +47,7 @@ fn log(editions: Vec<u8>, traps: &[Trap], injections: Vec<u8>) -> Log {
 /// The log that is stored beside the program: editions out of order, repeated
 /// and unknown, some of them above 7, and more than 16 traps.
 pub fn stored() -> Log {
-    log(vec![3, 0, 200, 3, 12, 7, 15, 1, 0, 16, 9], &TRAPS, vec![0, 4, 255, 1])
+    log(vec![3, 0, 200, 3, 12, 7, 15, 1, 0, 16, 9], &TRAPS, vec![(0, 0), (4, 15), (255, 7), (1, 1)])
 }
 
 /// So many traps drawn at random, most of them aborts.
@@ -76,7 +76,7 @@ fn of_length(random: &mut Random, length: usize, traps: usize) -> Vec<u8> {
 /// A log that each refusal stands against, and some that two do: the first
 /// count is cut short, then each count in turn passes the end, and so on.
 fn refused() -> Vec<(String, Vec<u8>)> {
-    let whole = bytes(&log(vec![200, 1], &TRAPS[..2], vec![7]));
+    let whole = bytes(&log(vec![200, 1], &TRAPS[..2], vec![(7, 3)]));
     // Where the counts of the four sections stand.
     let counts = [0, 6, 26, 62];
     let mut logs = Vec::new();
@@ -95,13 +95,25 @@ fn refused() -> Vec<(String, Vec<u8>)> {
     let mut left_over = whole.clone();
     left_over.push(0);
     logs.push(("a byte left over".into(), left_over));
-    let mut unequal = log(vec![0, 8], &TRAPS, vec![3]);
+    let mut unequal = log(vec![0, 8], &TRAPS, vec![(3, 0)]);
     unequal.addresses.pop();
     logs.push(("one address fewer than syndromes".into(), bytes(&unequal)));
     let mut both = bytes(&unequal);
     both.push(0);
     logs.push(("unequal counts and a byte left over".into(), both));
+    let mut wide = log(vec![0, 8], &TRAPS, vec![(3, 0), (4, 16), (255, 15)]);
+    logs.push(("a domain above 15".into(), bytes(&wide)));
+    logs.push(("a domain above 15 and a byte left over".into(), [bytes(&wide), vec![0]].concat()));
+    wide.addresses.pop();
+    logs.push(("a domain above 15 and unequal counts".into(), bytes(&wide)));
+    let one = log(vec![0, 8], &TRAPS, vec![(0, 0)]);
+    logs.push(("an older log with an injection".into(), older(&one)));
     logs
+}
+
+/// Injections with these first bytes, and domains up to 15 that differ from them.
+fn domains(injections: Vec<u8>) -> Vec<(u8, u8)> {
+    injections.into_iter().map(|injection| (injection, (injection ^ 5) % 16)).collect()
 }
 
 /// Every log with a name.
@@ -113,21 +125,22 @@ pub fn inputs() -> Vec<(String, Vec<u8>)> {
         ("a log without entries".into(), bytes(&Log::default())),
         ("editions out of order".into(), bytes(&stored())),
         ("no edition".into(), bytes(&log(vec![], &TRAPS, vec![]))),
-        ("every edition".into(), bytes(&log(all(), &TRAPS, all()))),
+        ("every edition, and every domain".into(), bytes(&log(all(), &TRAPS, domains(all())))),
+        ("an older log without injections".into(), older(&log(all(), &TRAPS, vec![]))),
         ("every edition twice".into(), bytes(&log([all(), all()].concat(), &TRAPS[..3], vec![]))),
         (
             "every edition from the last".into(),
-            bytes(&log((0..=255).rev().collect(), &TRAPS[..3], (0..=255).collect())),
+            bytes(&log((0..=255).rev().collect(), &TRAPS[..3], domains((0..=255).collect()))),
         ),
         ("editions above 15".into(), bytes(&log((16..=255).collect(), &TRAPS, vec![]))),
     ];
     for edition in 0..16 {
-        let one = log(vec![edition], &TRAPS, vec![edition]);
+        let one = log(vec![edition], &TRAPS, domains(vec![edition]));
         logs.push((format!("edition {edition}"), bytes(&one)));
     }
     logs.extend(refused());
     let hundreds = many(&mut random, 800);
-    logs.push(("hundreds of traps".into(), bytes(&log(all(), &hundreds, vec![255; 300]))));
+    logs.push(("hundreds of traps".into(), bytes(&log(all(), &hundreds, vec![(255, 15); 300]))));
     for (traps, name) in [(0, "editions alone"), (1000, "a thousand traps")] {
         for length in [LONGEST, LONGEST + 1] {
             let name = format!("{length} bytes, {name}");
@@ -154,8 +167,9 @@ mod tests {
                 read(log).err().map_or((0, 0), |refusal| (refusal.number, refusal.section))
             })
             .collect();
-        let all = [(0, 0), (13, 1), (13, 2), (13, 3), (13, 4), (14, 0), (15, 0), (16, 0)];
-        assert_eq!(answers, BTreeSet::from(all));
+        let cut = [(13, 1), (13, 2), (13, 3), (13, 4)];
+        let all = [&cut[..], &[(0, 0), (14, 0), (15, 0), (16, 0), (20, 0)]].concat();
+        assert_eq!(answers, BTreeSet::from_iter(all));
     }
 
     #[test]

@@ -296,7 +296,7 @@ fn words_inputs() -> Vec<(String, Vec<u8>)> {
 fn states_inputs() -> Vec<(String, Vec<u8>)> {
     row_inputs(["held 13 d", "spsr 0 0 0 10"], |random| {
         let state = call::text(&random_state(random));
-        format!("inject {:x} 0 0 0 0 {state}", random.below(3))
+        format!("inject {:x} 0 0 0 0 0 {state}", random.below(3))
     })
 }
 

@@ -38,7 +38,8 @@ fn questions() -> Vec<String> {
         .chain(finish::questions())
         .chain(short::questions())
         .chain(a32::questions())
-        .chain(pending::questions());
+        .chain(pending::questions())
+        .chain(inject::domain_questions());
     let calls: Vec<Call> = calls.collect();
     let derived = derived(&calls);
     calls.iter().chain(&derived).map(Call::line).collect()
@@ -189,8 +190,8 @@ mod tests {
             ("carry", 1000, "0 1 4 5 6"),
             ("trap", 1000, "0 1 2 3 4 5 6 7 8"),
             ("both", 1000, "0 1 2 3 4 5 6 7 8"),
-            ("inject", 1000, "0 9 a b c"),
-            ("lent", 300, "0 9 a b c"),
+            ("inject", 1000, "0 14 9 a b c"),
+            ("lent", 300, "0 14 9 a b c"),
             ("hread", 1000, "0 1 3 4 5 6"),
             ("hwrite", 1000, "0 1 4 5 6"),
             ("widen", 1000, "0 5 9"),

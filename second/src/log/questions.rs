@@ -1,9 +1,9 @@
 //! The questions on logs that the gate asks the proved code (`crates/check_log`),
 //! and their answers: a log is read, also by the reader that holds it; an entry is
 //! looked up; a log is written again; lists are written. The answers are worked out
-//! by chopping bytes off a log and pushing them onto one, from request C-14.
+//! by chopping bytes off a log and pushing them onto one, from requests C-14 and C-21.
 
-use super::{bytes, chop, example, first_line, logs, number, read, section, Log, LONGEST};
+use super::{bytes, chop, example, first_line, logs, number, read, section, Log, LONGEST, SIZES};
 use crate::random::Random;
 use std::fmt::Write;
 
@@ -14,7 +14,7 @@ struct Lists {
     syndromes: Vec<u64>,
     fars: Vec<u64>,
     hpfars: Vec<u64>,
-    injections: Vec<u8>,
+    injections: Vec<(u8, u8)>,
 }
 
 impl Lists {
@@ -49,6 +49,9 @@ fn write(lists: &Lists, buffer: &mut [u8]) -> (u8, usize) {
     if [&lists.fars, &lists.hpfars].into_iter().any(|words| words.len() != traps) {
         return (15, 0);
     }
+    if !lists.log().domains_fit() {
+        return (20, 0);
+    }
     match buffer.get_mut(..pushed.len()) {
         None => (17, 0),
         Some(front) => {
@@ -72,9 +75,8 @@ fn rewrite(log: &[u8], buffer: &mut [u8]) -> (u8, u8, usize) {
 
 /// The section after so many others, or the first that isn't whole, and an entry of it.
 fn look(log: &[u8], passed: u32, entry: u32) -> String {
-    let sizes = [1, 8, 16, 1];
     let mut rest = log;
-    for (at, size) in sizes.into_iter().enumerate() {
+    for (at, size) in SIZES.into_iter().enumerate() {
         let before = rest;
         let Some(entries) = section(&mut rest, size) else { break };
         if at < passed as usize {
@@ -94,7 +96,7 @@ fn told(section: usize, mut entry: &[u8]) -> String {
         0 => format!("edition {}", entry[0]),
         1 => format!("syndrome {:x}", word()),
         2 => format!("address {:x} {:x}", word(), word()),
-        _ => format!("injection {}", entry[0]),
+        _ => format!("injection {} {}", entry[0], entry[1]),
     }
 }
 
@@ -137,6 +139,10 @@ fn byte_list(bytes: &[u8]) -> Vec<u8> {
     list(bytes.iter().map(|&byte| [byte]), 0)
 }
 
+fn injection_list(injections: &[(u8, u8)]) -> Vec<u8> {
+    list(injections.iter().map(|&(injection, domain)| [injection, domain]), 0)
+}
+
 fn word_list(words: &[u64]) -> Vec<u8> {
     list(words.iter().map(|word| word.to_le_bytes()), 0)
 }
@@ -163,7 +169,7 @@ impl Question {
                 word_list(&lists.syndromes),
                 word_list(&lists.fars),
                 word_list(&lists.hpfars),
-                byte_list(&lists.injections),
+                injection_list(&lists.injections),
                 buffer_list(buffer),
             ]
             .concat(),
@@ -204,13 +210,13 @@ fn zeros(size: usize) -> Log {
     Log { editions: vec![0; size - 16], ..Log::default() }
 }
 
-/// A log of 43 bytes with an entry of each kind.
+/// A log of 44 bytes with an entry of each kind.
 fn one_of_each() -> Log {
     Log {
         editions: vec![200, 1],
         syndromes: vec![0x9200_0005],
         addresses: vec![(0x8abc, 0x1_2340)],
-        injections: vec![7],
+        injections: vec![(7, 12)],
     }
 }
 
@@ -233,11 +239,11 @@ fn twice_refused() -> Vec<Vec<u8>> {
         logs.push(cut);
     }
     logs.push(vec![0; LONGEST + 1]);
-    logs.push(bytes(&Log {
-        syndromes: vec![0x9200_0005],
-        injections: vec![0; LONGEST],
-        ..Log::default()
-    }));
+    let many = || vec![(0, 0); LONGEST / 2];
+    logs.push(bytes(&Log { syndromes: vec![0x9200_0005], injections: many(), ..Log::default() }));
+    // 20 with 16.
+    let wide = [vec![(0, 16)], many()].concat();
+    logs.push(bytes(&Log { injections: wide, ..Log::default() }));
     logs
 }
 
@@ -278,7 +284,8 @@ fn looks() -> Vec<Question> {
 fn agains() -> Vec<Question> {
     let most_traps =
         Log { syndromes: vec![0; 2730], addresses: vec![(0, 0); 2730], ..Log::default() };
-    let longest = [zeros(LONGEST), most_traps].map(|log| bytes(&log));
+    let most_injections = Log { injections: vec![(0, 0); 32_760], ..Log::default() };
+    let longest = [zeros(LONGEST), most_traps, most_injections].map(|log| bytes(&log));
     let short = logs().into_iter().chain(twice_refused()).filter(|log| log.len() < 1000);
     let mut asked = Vec::new();
     for (turn, log) in short.enumerate() {
@@ -308,22 +315,46 @@ fn writes() -> Vec<Question> {
             syndromes: words(syndromes),
             fars: words(fars),
             hpfars: words(hpfars),
-            injections: vec![4, 255],
+            injections: vec![(4, 15), (255, 0)],
         };
         let length = bytes(&lists.log()).len();
         for room in [0, 5, length - 1, length, length + 9] {
             ask(&lists, room);
         }
     }
+    // Domains that are too large, beside counts that differ and in every room.
+    for injections in [vec![(0, 16)], vec![(15, 15), (0, 255)], vec![(255, 128), (4, 0)]] {
+        for (syndromes, fars, hpfars) in [(1, 1, 1), (0, 0, 0), (1, 0, 1), (0, 0, 1), (2, 1, 1)] {
+            let lists = Lists {
+                syndromes: words(syndromes),
+                fars: words(fars),
+                hpfars: words(hpfars),
+                injections: injections.clone(),
+                ..Lists::default()
+            };
+            let length = bytes(&lists.log()).len();
+            for room in [0, length - 1, length, length + 9] {
+                ask(&lists, room);
+            }
+        }
+    }
+    // Each domain, beside first bytes of every kind.
+    for domain in (0..=16).chain([31, 128, 240, 255]) {
+        let injections = vec![(0, domain), (4, domain), (16, domain), (255, domain)];
+        ask(&Lists { injections, ..Lists::default() }, 24);
+    }
     // Each list so long that the log just fits 65,536 bytes, and by one entry too long; the
     // three lists of words together and each alone, so that their lengths differ.
     for entries in [65_520, 65_521] {
         let bytes = vec![0; entries];
+        let injections = vec![(0, 0); entries.div_ceil(2)];
+        let wide = [vec![(0, 16)], injections[1..].to_vec()].concat();
         let lists = [
             Lists { editions: bytes.clone(), ..Lists::default() },
-            Lists { injections: bytes.clone(), ..Lists::default() },
-            Lists { editions: bytes.clone(), syndromes: vec![1], ..Lists::default() },
-            Lists { injections: bytes, hpfars: vec![1], ..Lists::default() },
+            Lists { injections: injections.clone(), ..Lists::default() },
+            Lists { injections: wide, ..Lists::default() },
+            Lists { editions: bytes, syndromes: vec![1], ..Lists::default() },
+            Lists { injections, hpfars: vec![1], ..Lists::default() },
         ];
         lists.iter().for_each(|lists| ask(lists, 40));
     }
@@ -395,21 +426,23 @@ mod tests {
 
     #[test]
     fn each_call_gives_every_number_that_it_can_give() {
-        assert_eq!(given(writes(), 2), set(&["write 0", "write 15", "write 16", "write 17"]));
+        let writes = given(writes(), 2);
+        assert_eq!(writes, set(&["write 0", "write 15", "write 16", "write 17", "write 20"]));
         let agains = given(agains(), 2);
-        assert_eq!(agains, set(&["again 0", "again 13", "again 14", "again 15", "again 17"]));
+        let numbers = ["again 0", "again 13", "again 14", "again 15", "again 17", "again 20"];
+        assert_eq!(agains, set(&numbers));
     }
 
     #[test]
     fn a_refusal_leaves_the_buffer_and_a_log_what_lies_past_it() {
         let lists = Lists::of(one_of_each());
-        let mut small = buffer(42);
+        let mut small = buffer(43);
         assert_eq!(write(&lists, &mut small), (17, 0));
-        assert_eq!(small, buffer(42));
+        assert_eq!(small, buffer(43));
         let mut large = buffer(50);
-        assert_eq!(write(&lists, &mut large), (0, 43));
-        assert_eq!(large[..43], bytes(&one_of_each()));
-        assert_eq!(large[43..], buffer(50)[43..]);
+        assert_eq!(write(&lists, &mut large), (0, 44));
+        assert_eq!(large[..44], bytes(&one_of_each()));
+        assert_eq!(large[44..], buffer(50)[44..]);
     }
 
     #[test]
@@ -418,6 +451,18 @@ mod tests {
         lists.hpfars.push(9);
         assert_eq!(write(&lists, &mut buffer(100)), (15, 0));
         lists.hpfars = vec![9; 4096];
+        assert_eq!(write(&lists, &mut buffer(100)), (16, 0));
+    }
+
+    #[test]
+    fn a_domain_is_refused_after_the_counts_and_before_the_room() {
+        let mut lists = Lists::of(one_of_each());
+        lists.injections.push((0, 16));
+        assert_eq!(write(&lists, &mut buffer(100)), (20, 0));
+        assert_eq!(write(&lists, &mut buffer(3)), (20, 0));
+        lists.fars.clear();
+        assert_eq!(write(&lists, &mut buffer(100)), (15, 0));
+        lists.editions = vec![0; LONGEST];
         assert_eq!(write(&lists, &mut buffer(100)), (16, 0));
     }
 
@@ -437,10 +482,10 @@ mod tests {
         assert_eq!(look(&log, 0, 0), "whole 2 6 edition 200");
         assert_eq!(look(&log, 1, 0), "whole 1 12 syndrome 92000005");
         assert_eq!(look(&log, 2, 0), "whole 1 20 address 8abc 12340");
-        assert_eq!(look(&log, 3, 0), "whole 1 5 injection 7");
-        assert_eq!(look(&log, 3, 1), "whole 1 5 none");
+        assert_eq!(look(&log, 3, 0), "whole 1 6 injection 7 12");
+        assert_eq!(look(&log, 3, 1), "whole 1 6 none");
         assert_eq!(look(&log, 4, 0), "none none");
-        assert_eq!(look(&log[..42], 3, 0), "none none");
+        assert_eq!(look(&log[..43], 3, 0), "none none");
     }
 
     #[test]

@@ -21,10 +21,20 @@ pub fn questions() -> Vec<Call> {
     questions.extend(random_questions());
     questions.extend(every_mark());
     questions.extend(marked_words());
+    by_value_and_lent(&questions).chain(saved_words()).collect()
+}
+
+/// Data aborts with a domain.
+pub fn domain_questions() -> Vec<Call> {
+    let mut questions = every_domain();
+    questions.extend(order_with_domain());
+    by_value_and_lent(&questions).collect()
+}
+
+/// The lent call makes the call by value: a quarter of its questions.
+fn by_value_and_lent(questions: &[Question]) -> impl Iterator<Item = Call> + '_ {
     let by_value = questions.iter().map(|question| ask(false, question));
-    // The lent call makes the call by value: a quarter of its questions.
-    let lent = questions.iter().step_by(4).map(|question| ask(true, question));
-    by_value.chain(lent).chain(saved_words()).collect()
+    by_value.chain(questions.iter().step_by(4).map(|question| ask(true, question)))
 }
 
 fn ask(lent: bool, (injection, state): &Question) -> Call {
@@ -56,8 +66,9 @@ fn plain_state() -> State {
     state(0x10, 0x8000, 0)
 }
 
+/// The aborts of a fault, with domain 0.
 fn aborts(fault: Fault, address: u64) -> [Injection; 3] {
-    let data = |write| Injection::DataAbort { fault, address, write };
+    let data = |write| Injection::DataAbort { fault, address, write, domain: 0 };
     [Injection::PrefetchAbort { fault, address }, data(false), data(true)]
 }
 
@@ -269,6 +280,51 @@ fn marked_words() -> Vec<Question> {
             let fault = Fault::Permission(if fails(11) { 3 } else { 1 });
             let state = State { status: 0x13 + bits, vbar, marks, ..plain_state() };
             questions.push((aborts(fault, 0x8000)[turn.next() as usize % 3], state));
+        }
+    }
+    questions
+}
+
+/// Every fault in both formats with domains on both sides of the boundary; and of
+/// the faults that report one, every bit of it alone and every number of four bits.
+fn every_domain() -> Vec<Question> {
+    let mut questions = Vec::new();
+    let mut turn = Turn::over(3);
+    let mut ask = |fault, domain, ttbcr| {
+        let write = turn.next() == 0;
+        let injection = Injection::DataAbort { fault, address: 0x8765_4321, write, domain };
+        questions.push((injection, State { ttbcr, ..plain_state() }));
+    };
+    for fault in faults_at(&[0, 1, 2, 3, 4]) {
+        for domain in [0, 1, 15, 16, 255] {
+            for ttbcr in [0, LONG] {
+                ask(fault, domain, ttbcr);
+            }
+        }
+    }
+    for fault in [Fault::Translation(2), Fault::AccessFlag(2)] {
+        for domain in (2..15).chain([17, 32, 64, 128]) {
+            ask(fault, domain, 0);
+        }
+    }
+    questions
+}
+
+/// Every choice of the tests 9, 10, 11, 20 and 12 that fail together, by a fault that
+/// reports its domain and by one that doesn't.
+fn order_with_domain() -> Vec<Question> {
+    let mut questions = Vec::new();
+    for choice in 0..32 {
+        let fails = |place: u32| choice >> place & 1 == 1;
+        let level = if fails(2) { 3 } else { 2 };
+        let domain = if fails(3) { 16 } else { 15 };
+        let address = if fails(4) { 0x1_0000_0000 } else { 0xffff_ffff };
+        for fault in [Fault::Translation(level), Fault::Permission(level)] {
+            let mut state = plain_state();
+            state.status |= u32::from(fails(0)) << 22;
+            state.vbar += u32::from(fails(1)) << 4;
+            let write = fails(3) == fails(4);
+            questions.push((Injection::DataAbort { fault, address, write, domain }, state));
         }
     }
     questions

@@ -43,7 +43,7 @@ fn rows() -> Vec<String> {
     ]
     .map(String::from)
     .into();
-    for injection in ["0 0 0 0 0", "3 1 1 8000 0", "4 0 0 8000 1"] {
+    for injection in ["0 0 0 0 0 0", "3 1 1 8000 0 0", "4 0 0 8000 1 0"] {
         rows.push(format!("inject {injection}{state}"));
         rows.push(format!("lent {injection}{state}"));
     }
