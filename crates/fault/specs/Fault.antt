@@ -71,7 +71,7 @@ abbrev pub writeBit : Bool → ℕ
 writeBit true = 2 ^ 11
 writeBit false = 0
 
--- what the domain adds, by the row and the format: its four bits at 7:4 in the short format of a row that has one, and nothing elsewhere
+-- what the domain adds, by the row and the format (02, C-21): its four bits, "written to bits 7:4 in those two cases and 0 otherwise"
 abbrev pub domainIn : Row → Bool → ℕ → ℕ
 domainIn row long domain = cond (row .domain && not long) (fieldOf domain 3 0 * 2 ^ 4) 0
 

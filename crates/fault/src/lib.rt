@@ -1,6 +1,7 @@
 // The words of the fault status registers, DFSR and IFSR.
 ghost use mathlib.Core.Path.{_≡_};
-ghost use Rattle.fault.specs.Fault.{byLevel, levelled, faultRow, isLong, column, statusWord, statusOf, isAlignment, ifsrWord, domainIn, dfsrOf, dfsrWord, isCode, codeIn, asynchronousDfsr};
+ghost use Rattle.fault.specs.Fault.{byLevel, levelled, faultRow, isLong, column, statusWord, statusOf, isAlignment, ifsrWord};
+ghost use Rattle.fault.specs.Fault.{domainIn, dfsrOf, dfsrWord, isCode, codeIn, asynchronousDfsr};
 use bits::bit;
 
 // A fault with the level of the lookup that gave it, where the fault has a level.
@@ -37,7 +38,8 @@ fn by_level(level: u8, first: u32, second: u32, third: Encoding) -> Encoding
     }
 }
 
-// The row of a fault that has levels: two codes of the short format, which has no level 3, three of the long, and whether level 2 has a domain.
+// The row of a fault that has levels: two codes of the short format, which has no level 3, three of the long, and whether level 2
+// has the domain.
 fn levelled(level: u8, s1: u32, s2: u32, l1: u32, l2: u32, l3: u32, domain: bool) -> Row
     ensures { λ r. ⌜ r ≡ levelled level s1 s2 l1 l2 l3 domain ⌝ }
 {

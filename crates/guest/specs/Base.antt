@@ -1,5 +1,6 @@
 -- 01's injection as it stood before request C-15, for states that have none of its features: test 9 and the new status word were the base's (status,
--- specs/Base.antt). The law `unmarked-injected` (proofs/Unmarked.antt) says that where nothing is marked, what holds now is what held then.
+-- specs/Base.antt). Test 20 and the domain of C-21 stand in it as they do now: the law `unmarked-injected` (proofs/Unmarked.antt) says that where nothing is
+-- marked, what holds now is what holds without C-15.
 use mathlib.Core.List.{List, [], _∷_}
 use Rattle.bits.specs.Decide.{Test, needs, decide}
 use Rattle.status.specs.Base.{baseSound, baseEntryStatus}
