@@ -71,7 +71,12 @@ static KINDS: [Kind; 14] = [
         ],
     },
     Kind { number: 5, classes: &[0x07], fixed: 0, fields: &[IL, CV, COND] },
-    Kind { number: 6, classes: &[0x11, 0x12, 0x38], fixed: 0, fields: &[IL, field("imm16", 15, 0)] },
+    Kind {
+        number: 6,
+        classes: &[0x11, 0x12, 0x38],
+        fixed: 0,
+        fields: &[IL, field("imm16", 15, 0)],
+    },
     Kind { number: 7, classes: &[0x13], fixed: 0, fields: &[IL, CV, COND, bit("CCKNOWNPASS", 19)] },
     Kind { number: 8, classes: &[0x20], fixed: 0, fields: &[IL, SET, FNV, EA, S1PTW, CODE] },
     Kind {

@@ -4,8 +4,8 @@
 use crate::edition::Edition;
 use crate::form::{bit, field, Family, Field, Form, Kind};
 use crate::long::{
-    addressing_modes, bit_if, calls_to_the_monitor, conditions, has_no_16_bit_form, instructions,
-    calls_of_either_length, CODE, COND, CV, DIRECTION, EA, FNV, IL, S1PTW,
+    addressing_modes, bit_if, calls_of_either_length, calls_to_the_monitor, conditions,
+    has_no_16_bit_form, instructions, CODE, COND, CV, DIRECTION, EA, FNV, IL, S1PTW,
 };
 
 pub static SHORT: Form = Form { kinds: &KINDS, editions: 2, needs_il, families };
