@@ -1,19 +1,26 @@
-// `run STATE CALL ..` and `runlent STATE CALL ..`: pending::raise, and delivery::deliver or monitor::deliver_in_place, at most 24 calls that
-// start with nothing waiting.
+// `run STATE CALL ..` and `runlent STATE CALL ..`: pending::raise, delivery::deliver or monitor::deliver_in_place, guest::inject, and
+// resume::resume or monitor::resume_in_place, at most 24 calls that start with nothing waiting.
 use super::lent::deliver_lent;
+use super::lent::resume_lent;
 use delivery::Answer;
 use delivery::Delivered;
 use delivery::deliver;
 use exception::Guest;
+use guest::Injection;
+use injection_rows::Asked;
 use pending::Kind;
 use pending::Queue;
+use resume::Resumed;
 use rows::Reply;
 use rows::Row;
 use rows::joined;
 use rows::long;
 use rows::no_row;
+use rows::rest;
 use rows::with;
 use rows::with_number;
+use rows::word;
+use signed::Signed;
 use state_rows::leads;
 use state_rows::state;
 use state_rows::with_state;
@@ -125,15 +132,9 @@ fn name(answer: Answer) -> u64 {
     }
 }
 
-// What a step has come to. What it changed in the state is told, and stands in the state of the next one.
-fn done(run: Run, step: Delivered) -> Run {
+// A run after a call that has said something. What the call changed in the state is told, and stands in the state of the next one.
+fn left(run: Run, queue: Queue, said: Reply, after: Guest) -> Run {
     let row = run.row;
-    let reply = run.reply;
-    let outcome = step.outcome;
-    let answer = outcome.answer;
-    let queue = outcome.queue;
-    let after = step.state;
-    let said = with(with(reply, delivery::number(answer) as u64), name(answer));
     let moved = with_state(no_row(), row, after);
     Run {
         row: rows::changed(row, moved),
@@ -142,6 +143,16 @@ fn done(run: Run, step: Delivered) -> Run {
         reply: with(joined(said, moved), END),
         good: run.good,
     }
+}
+
+fn done(run: Run, step: Delivered) -> Run {
+    let reply = run.reply;
+    let outcome = step.outcome;
+    let answer = outcome.answer;
+    let queue = outcome.queue;
+    let after = step.state;
+    let said = with(with(reply, delivery::number(answer) as u64), name(answer));
+    left(run, queue, said, after)
 }
 
 fn delivered(queue: Queue, before: Guest, lent: bool) -> Delivered {
@@ -160,10 +171,75 @@ fn step(run: Run, lent: bool) -> Run {
     done(asked, delivered(queue, state(row), lent))
 }
 
+// A correction is told by its sign, 0 or 1 for minus, and its size.
+fn with_correction(reply: Reply, correction: Signed) -> Reply {
+    match correction {
+        Signed::Plus(n) => with(with(reply, 0), n as u64),
+        Signed::Minus(n) => with(with(reply, 1), n as u64),
+    }
+}
+
+fn injected(run: Run, what: Injection) -> Run {
+    let row = run.row;
+    let queue = run.queue;
+    let reply = run.reply;
+    let before = state(row);
+    let correction = guest::correction(before, what);
+    let done = guest::inject(before, what);
+    let answer = done.answer;
+    let after = done.state;
+    let said = with_correction(with(reply, guest::number(answer) as u64), correction);
+    left(skipped(run, 7), queue, said, after)
+}
+
+// `2 KIND FAULT LEVEL ADDRESS WRITE DOMAIN`.
+fn inject(run: Run) -> Run {
+    let row = run.row;
+    match injection_rows::from_row(rest(row, wrapping_add_usize(run.at, 1))) {
+        Asked::Injection(what) => injected(run, what),
+        Asked::None => malformed(run),
+    }
+}
+
+fn resumed(before: Guest, correction: Signed, lent: bool) -> Resumed {
+    if lent {
+        resume_lent(before, correction)
+    } else {
+        resume::resume(before, correction)
+    }
+}
+
+fn returned(run: Run, correction: Signed, lent: bool) -> Run {
+    let row = run.row;
+    let queue = run.queue;
+    let reply = run.reply;
+    let done = resumed(state(row), correction, lent);
+    let answer = done.answer;
+    let after = done.state;
+    let said = with(reply, resume::number(answer) as u64);
+    left(skipped(run, 3), queue, said, after)
+}
+
+// `3 SIGN SIZE`.
+fn go_back(run: Run, lent: bool) -> Run {
+    let row = run.row;
+    let size = word(row, wrapping_add_usize(run.at, 2));
+    if number(run, 2) != size as u64 {
+        return malformed(run);
+    }
+    match number(run, 1) {
+        0 => returned(run, Signed::Plus(size), lent),
+        1 => returned(run, Signed::Minus(size), lent),
+        _ => malformed(run),
+    }
+}
+
 fn call(run: Run, lent: bool) -> Run {
     match number(run, 0) {
         0 => raise(run),
         1 => step(run, lent),
+        2 => inject(run),
+        3 => go_back(run, lent),
         _ => malformed(run),
     }
 }

@@ -1,7 +1,6 @@
 // `inject KIND FAULT LEVEL ADDRESS WRITE DOMAIN STATE`: guest::inject.
-use super::injection;
-use super::injection::Asked;
 use guest::Injected;
+use injection_rows::Asked;
 use rows::Reply;
 use rows::Row;
 use rows::rest;
@@ -20,7 +19,7 @@ pub fn answer(row: Row) -> Reply {
     if !is_state(before) {
         return rows::no_row();
     }
-    match injection::from_row(row) {
+    match injection_rows::from_row(row) {
         Asked::Injection(what) => shown(before, guest::inject(state(before), what)),
         Asked::None => rows::no_row(),
     }

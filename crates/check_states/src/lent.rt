@@ -2,11 +2,10 @@
 ghost use mathlib.Core.Path.{_≡_};
 ghost use Rattle.guest.specs.Inject.{injected};
 use super::inject::shown;
-use super::injection;
-use super::injection::Asked;
 use exception::Guest;
 use guest::Injected;
 use guest::Injection;
+use injection_rows::Asked;
 use monitor::inject_in_place;
 use rows::Reply;
 use rows::Row;
@@ -28,7 +27,7 @@ pub fn answer(row: Row) -> Reply {
     if !is_state(before) {
         return rows::no_row();
     }
-    match injection::from_row(row) {
+    match injection_rows::from_row(row) {
         Asked::Injection(what) => shown(before, inject_lent(state(before), what)),
         Asked::None => rows::no_row(),
     }

@@ -4,7 +4,6 @@ mod finish;
 mod finlent;
 mod held;
 mod inject;
-mod injection;
 mod lent;
 mod spsr;
 

@@ -1,6 +1,6 @@
 // A delivery step: of the interrupts that wait for a guest, the oldest whose mask bit is 0 is injected into its state.
 ghost use mathlib.Core.Path.{_≡_};
-ghost use Rattle.delivery.specs.Row.{row, deliveryRow};
+ghost use Rattle.delivery.specs.Row.{row, deliveryRow, correctionOf};
 ghost use Rattle.delivery.specs.Answer.{answerNumber};
 ghost use Rattle.delivery.specs.Deliver.{masksOf, faultsAfter, deliveredIn};
 ghost use Rattle.delivery.specs.Promise.{Delivering};
@@ -9,6 +9,7 @@ use exception::FaultRegisters;
 use exception::Guest;
 use exception::Row;
 use exception::aligned;
+use exception::correction_in;
 use exception::enter;
 use fault::asynchronous_dfsr;
 use pending::Choice;
@@ -19,6 +20,7 @@ use pending::next;
 use signed::Signed;
 use status::Mode;
 use status::sound;
+use status::t32;
 
 pub enum Answer {
     Delivered(Kind),
@@ -88,6 +90,13 @@ fn delivery_row(kind: Kind) -> Row
         Kind::Fiq => row(Mode::Fiq, 0x1C, 30, true, 4),
         Kind::Irq => row(Mode::Irq, 0x18, 16, false, 4),
     }
+}
+
+// What a delivery adds to the PC of a state for its link: a return takes it away again.
+pub fn correction(state: Guest, kind: Kind) -> Signed
+    ensures { λ r. ⌜ r ≡ correctionOf state kind ⌝ }
+{
+    correction_in(delivery_row(kind), t32(state.status))
 }
 
 // A virtual abort writes DFSR alone: it has no address. The domain that it passes on is 0.

@@ -45,7 +45,7 @@ fn vector_base(sctlr: u32, vbar: u32) -> u32
 }
 
 // The correction of the instruction set that the guest was in.
-fn correction_in(row: Row, t32: bool) -> Signed
+pub fn correction_in(row: Row, t32: bool) -> Signed
     ensures { λ r. ⌜ r ≡ correctionIn row t32 ⌝ }
 {
     if t32 { row.t32 } else { row.a32 }

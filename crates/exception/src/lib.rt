@@ -4,6 +4,7 @@ mod state;
 
 pub use entry::Row;
 pub use entry::aligned;
+pub use entry::correction_in;
 pub use entry::enter;
 pub use state::FaultRegisters;
 pub use state::Guest;

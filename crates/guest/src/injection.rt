@@ -1,10 +1,13 @@
 // The five injections, and document 01's table of them.
 ghost use mathlib.Core.Path.{_≡_};
-ghost use Rattle.guest.specs.Injection.{injectionRow};
+ghost use Rattle.guest.specs.Injection.{injectionRow, correctionOf};
+use exception::Guest;
 use exception::Row;
+use exception::correction_in;
 use fault::Fault;
 use signed::Signed;
 use status::Mode;
+use status::t32;
 
 // The instruction fetch that a prefetch abort reports.
 pub struct Fetch {
@@ -82,4 +85,11 @@ pub(crate) fn injection_row(what: Injection) -> Row
             t32: Signed::Plus(8),
         },
     }
+}
+
+// What an injection adds to the PC of a state for its link, by the state's instruction set: a return takes it away again.
+pub fn correction(state: Guest, what: Injection) -> Signed
+    ensures { λ r. ⌜ r ≡ correctionOf state what ⌝ }
+{
+    correction_in(injection_row(what), t32(state.status))
 }

@@ -14,5 +14,6 @@ pub use exception::with_register;
 pub use injection::Access;
 pub use injection::Fetch;
 pub use injection::Injection;
+pub use injection::correction;
 pub use injector::Injected;
 pub use injector::inject;

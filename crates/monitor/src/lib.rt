@@ -2,6 +2,7 @@
 ghost use Rattle.guest.specs.Promise.{Promise};
 ghost use Rattle.device.specs.Promise.{FinishPromise};
 ghost use Rattle.delivery.specs.Promise.{Delivering};
+ghost use Rattle.resume.specs.Promise.{Returning};
 use delivery::Outcome;
 use delivery::deliver;
 use device::finish;
@@ -10,6 +11,8 @@ use guest::Injection;
 use guest::inject;
 use pending::Queue;
 use record::Record;
+use resume::resume;
+use signed::Signed;
 
 // Injects into the state where it lies: answer and state are those of the call by value, on a refusal too.
 pub fn inject_in_place(state: &mut Guest, what: Injection) -> guest::Answer
@@ -36,4 +39,13 @@ pub fn deliver_in_place(state: &mut Guest, queue: Queue) -> Outcome
     let step = deliver(queue, *state);
     *state = step.state;
     step.outcome
+}
+
+// Returns the guest from an exception in the state where it lies, in the same way.
+pub fn resume_in_place(state: &mut Guest, correction: Signed) -> resume::Answer
+    ensures { λ r. ⌜ Returning (now (state .entry)) correction (record { answer = r; state = now (state .exit) }) ⌝ }
+{
+    let back = resume(*state, correction);
+    *state = back.state;
+    back.answer
 }

@@ -80,6 +80,17 @@ module _ {S : Type 0} (d : Delivery S) where
           let it : j ≡ k = cc (a, ap (λ (x : Step S). x .answer) e) in
           ap (λ (b : Bool). b && not (d .mask s k)) t ∙ ap not (ap (d .mask s) (sym it) ∙ unmasked)
 
+  -- the step that delivers a kind is taken, and its state is the one after that kind's injection
+  pub delivering-injects : (k : Kind) (l : List Kind) (s : S) → stepOf d l s .answer ≡ delivered k → (taken d s ≡ true) × (stepOf d l s .state ≡ d .injected s k)
+  delivering-injects k l s a = by (ending l s)
+    where
+      by : Ending l s → (taken d s ≡ true) × (stepOf d l s .state ≡ d .injected s k)
+      by (refused-step f e) = absurd-answer (cc (a, ap (λ (x : Step S). x .answer) e))
+      by (none-open-step t all e) = absurd-answer (cc (a, ap (λ (x : Step S). x .answer) e))
+      by (oldest-open-step t before j rest same all unmasked e) =
+          let it : j ≡ k = cc (a, ap (λ (x : Step S). x .answer) e) in
+          (t, ap (λ (x : Step S). x .state) e ∙ ap (d .injected s) it)
+
   -- What a step does to one that waits: it is delivered; or it still waits, and where the step counts for it one fewer waits before it.
   abbrev pub Moved : Kind → List Kind → Bool → Step S → Type 0
   Moved k l counted x = (x .answer ≡ delivered k) ⊎ ((waits k (x .waiting) ≡ true) × (digit counted + older k (x .waiting) ≤ older k l))

@@ -1,5 +1,5 @@
 -- Laws of the sum, over every word: inside the range of 32 bits, past either end of it, and undone.
-use mathlib.Core.Path.{_≡_, refl}
+use mathlib.Core.Path.{_≡_, refl, sym, ap, _∙_}
 use mathlib.Core.Bool.{Bool, true, false, cond}
 use Prim.Native.Nat.{ℕ, zero, suc, _+_, _-_, _%_, _^_, _<_, _≤_}
 use native.Mathlib.Omega.{arith}
@@ -49,3 +49,8 @@ sum-back w (negsuc n) h = go (ltb w (suc n)) refl
     go : (b : Bool) → ltb w (suc n) ≡ b → (modulo (cond b (negsuc (suc n - suc w)) (pos (w - suc n))) + suc n) % 2 ^ 32 ≡ w
     go true t = let l = ltb-true w (suc n) t in omega arith
     go false t = let l = ltb-false w (suc n) t in omega arith
+
+-- what gives the word again when n is added is the word less n
+pub less : (w n r : ℕ) → r < 2 ^ 32 → (r + n) % 2 ^ 32 ≡ w → r ≡ sumOf w (negℤ (pos n))
+unfolding sumOf
+less w n r h again = sym (sum-back r (pos n) h) ∙ ap (λ (b : ℕ). sumOf b (negℤ (pos n))) again

@@ -1,5 +1,5 @@
 -- A signed number (01: "The correction is a signed number; the link is PC plus it, modulo 2^32"; 02, C-18: "the first address modulo 2^32, the signed change
--- of the base").
+-- of the base"; C-22: "less a stated signed correction, modulo 2^32").
 use Prim.Native.Nat.{ℕ, _-_, _%_, _^_}
 use lib.IntN.{ℤ, pos, negsuc, negℤ, _+ℤ_}
 use Rattle.signed.specs.declared.Signed.{Signed}
@@ -17,3 +17,7 @@ modulo (negsuc n) = 2 ^ 32 - 1 - n % 2 ^ 32
 -- a word plus a signed number, modulo 2^32
 unfoldable pub sumOf : ℕ → ℤ → ℕ
 sumOf word n = modulo (pos word +ℤ n)
+
+-- a word less a signed number, modulo 2^32
+abbrev pub differenceOf : ℕ → ℤ → ℕ
+differenceOf word n = sumOf word (negℤ n)

@@ -8,7 +8,7 @@ ghost use Rattle.status.specs.Base.{entryA};
 ghost use Rattle.status.specs.Entry.{t32, entryF, entryPan, entrySsbs, entryStatus};
 ghost use Rattle.status.specs.It.{itOf, itAdvance, withIt, itAdvanced};
 ghost use Rattle.status.specs.Spsr.{spsrStatus, SpsrPromise};
-ghost use Rattle.status.specs.Register.{byMode, numberIn, heldIn};
+ghost use Rattle.status.specs.Register.{byMode, linkRegister, numberIn, heldIn};
 use bits::bit;
 
 // The modes that an exception enters.
@@ -171,7 +171,7 @@ pub fn is_mode(mode: u32) -> bool
 }
 
 // What a mode has of its own; User and System share the last.
-fn by_mode(mode: u32, fiq: u32, irq: u32, svc: u32, abt: u32, und: u32, usr: u32) -> u32
+pub fn by_mode(mode: u32, fiq: u32, irq: u32, svc: u32, abt: u32, und: u32, usr: u32) -> u32
     ensures { λ r. ⌜ r ≡ byMode mode fiq irq svc abt und usr ⌝ }
 {
     match mode {
@@ -184,6 +184,13 @@ fn by_mode(mode: u32, fiq: u32, irq: u32, svc: u32, abt: u32, und: u32, usr: u32
     }
 }
 
+// The AArch64 number of R14, the link register, of a mode.
+pub fn link_register(mode: u32) -> u32
+    ensures { λ r. ⌜ r ≡ linkRegister mode ⌝ }
+{
+    by_mode(mode, 30, 16, 18, 20, 22, 14)
+}
+
 // The AArch64 number of a register of a mode.
 fn number_in(mode: u32, number: u32) -> u32
     ensures { λ r. ⌜ r ≡ numberIn mode number ⌝ }
@@ -191,7 +198,7 @@ fn number_in(mode: u32, number: u32) -> u32
     if number == 13 {
         by_mode(mode, 29, 17, 19, 21, 23, 13)
     } else if number == 14 {
-        by_mode(mode, 30, 16, 18, 20, 22, 14)
+        link_register(mode)
     } else if (mode == 0x11) & (8 <= number) & (number <= 12) {
         number + 16
     } else {

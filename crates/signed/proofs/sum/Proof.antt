@@ -1,20 +1,13 @@
 -- `signed::sum` meets its contract: the wrapping sum and difference are the word plus the signed number, modulo 2^32.
-use mathlib.Core.Path.{_≡_, sym, ap, _∙_}
-use Prim.Native.Nat.{ℕ, _+_, _%_, _^_, _<_}
+use mathlib.Core.Path.{_∙_}
 use native.Mathlib.Omega.{arith}
-use lib.IntN.{pos, negℤ}
 use borrow.Author.Needs.{needs}
 use Rattle.bits.proofs.Arms.{told}
 use Rattle.signed.specs.declared.Signed.{Signed}
 use Rattle.signed.specs.Signed.{signed, sumOf}
-use Rattle.signed.proofs.Sums.{sum-back}
+use Rattle.signed.proofs.Sums.{less}
 use Rattle.signed.proofs.sum.Statement.{statement}
 use Rattle.signed.proofs.sum.Tie as tie
-
--- what gives the word again when the size is added is the word less the size
-less : (w n r : ℕ) → r < 2 ^ 32 → (r + n) % 2 ^ 32 ≡ w → r ≡ sumOf w (negℤ (pos n))
-unfolding sumOf
-less w n r h again = sym (sum-back r (pos n) h) ∙ ap (λ (b : ℕ). sumOf b (negℤ (pos n))) again
 
 enum-known-number : tie.Need-enum-known-number
 enum-known-number c = search needs

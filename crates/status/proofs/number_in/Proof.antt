@@ -20,8 +20,8 @@ numbered mode n s l h = rw (s, l, h)
 by-mode-requires : tie.Need-by-mode-requires
 by-mode-requires c κs = search needs
 
-by-mode-requires-2 : tie.Need-by-mode-requires-2
-by-mode-requires-2 c κs = search needs
+link-register-requires : tie.Need-link-register-requires
+link-register-requires c κs = search needs
 
 add-result : tie.Need-add-result
 add-result c =
@@ -35,7 +35,7 @@ returns c = c .by-mode .ensures ∙ rw (eq-eqb _ _ (c .before .if1 .taken))
 
 returns-2 : tie.Need-returns-2
 unfolding numberIn
-returns-2 c = c .by-mode2 .ensures ∙ rw (ne-eqb _ _ (c .before .before .if1 .left), eq-eqb _ _ (c .before .if2 .taken))
+returns-2 c = c .link-register .ensures ∙ rw (ne-eqb _ _ (c .before .before .if1 .left), eq-eqb _ _ (c .before .if2 .taken))
 
 returns-3 : tie.Need-returns-3
 returns-3 c =
@@ -48,4 +48,4 @@ returns-4 c =
     numbered (a .mode) (a .number) (ne-eqb _ _ (c .before .before .if1 .left)) (ne-eqb _ _ (c .before .if2 .left)) (c .if3 .left)
 
 pub number-in-spec : {M : Type 1} → statement M
-number-in-spec = tie.close (tie.spec by-mode-requires by-mode-requires-2 add-result returns returns-2 returns-3 returns-4)
+number-in-spec = tie.close (tie.spec by-mode-requires link-register-requires add-result returns returns-2 returns-3 returns-4)

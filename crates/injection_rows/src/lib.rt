@@ -1,4 +1,4 @@
-// An injection by the first six numbers of a row: kind, fault, level, address, write and domain. What it lacks is 0.
+// Injections in rows: six numbers, which are kind, fault, level, address, write and domain. What an injection lacks is 0.
 use fault::Fault;
 use guest::Access;
 use guest::Fetch;
@@ -76,6 +76,7 @@ fn plain(row: Row, injection: Injection) -> Asked {
     }
 }
 
+// The injection that a row begins with.
 pub fn from_row(row: Row) -> Asked {
     match long(row, 0) {
         0 => plain(row, Injection::UndefinedAt),

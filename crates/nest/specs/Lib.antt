@@ -1,0 +1,3 @@
+-- Injections, deliveries and their returns, by request C-22 of document 02.
+pub mod Entry
+pub mod Nest
