@@ -85,7 +85,8 @@ pub enum Call {
         state: State,
         record: Record,
     },
-    /// Raises and delivery steps, these by value or on a state that is lent.
+    /// Raises, delivery steps, injections and returns, the steps and the returns by value
+    /// or on a state that is lent.
     Run {
         lent: bool,
         run: Run,
@@ -494,7 +495,7 @@ fn trap_row(trap: &Trap) -> Vec<u64> {
 
 /// Kind, fault, level, address, write and domain. What an injection or fault
 /// lacks is shown as 0.
-fn injection_row(injection: &Injection) -> Vec<u64> {
+pub fn injection_row(injection: &Injection) -> Vec<u64> {
     match *injection {
         Injection::UndefinedAt => row![0u8, 0u8, 0u8, 0u8, 0u8, 0u8],
         Injection::UndefinedAfter => row![1u8, 0u8, 0u8, 0u8, 0u8, 0u8],
@@ -520,7 +521,7 @@ fn fault_numbers(fault: Fault) -> [u8; 2] {
     }
 }
 
-fn injection_of(numbers: [u64; 6]) -> Option<Injection> {
+pub fn injection_of(numbers: [u64; 6]) -> Option<Injection> {
     match numbers {
         [0, 0, 0, 0, 0, 0] => Some(Injection::UndefinedAt),
         [1, 0, 0, 0, 0, 0] => Some(Injection::UndefinedAfter),

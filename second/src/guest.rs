@@ -1,4 +1,4 @@
-//! The guest's state, the five injections and the three interrupts.
+//! The guest's state, the five injections and the three interrupts, and the return.
 
 use crate::status::{Marks, Status};
 
@@ -158,6 +158,8 @@ enum Mode {
 }
 
 impl Mode {
+    const ALL: [Mode; 5] = [Mode::Fiq, Mode::Irq, Mode::Supervisor, Mode::Abort, Mode::Undefined];
+
     fn number(self) -> u8 {
         match self {
             Mode::Fiq => 0x11,
@@ -165,6 +167,17 @@ impl Mode {
             Mode::Supervisor => 0x13,
             Mode::Abort => 0x17,
             Mode::Undefined => 0x1b,
+        }
+    }
+
+    /// The place of the mode's link register: each has its own.
+    fn link(self) -> usize {
+        match self {
+            Mode::Fiq => 30,
+            Mode::Irq => 16,
+            Mode::Supervisor => 18,
+            Mode::Abort => 20,
+            Mode::Undefined => 22,
         }
     }
 
@@ -190,7 +203,23 @@ struct Entry {
     sets_f: bool,
 }
 
+impl Entry {
+    /// What is added to PC for the link, by the old status word's T.
+    fn correction(&self, old: &Status) -> i64 {
+        if old.t {
+            self.correction_t32
+        } else {
+            self.correction_a32
+        }
+    }
+}
+
 impl Injection {
+    /// What the injection adds to the PC of a state for its link.
+    pub fn correction(&self, state: &State) -> i64 {
+        self.entry().correction(&Status::unpack(state.status))
+    }
+
     fn entry(&self) -> Entry {
         let (mode, vector, link, correction_a32, correction_t32) = match self {
             Injection::UndefinedAt => (Mode::Undefined, 0x04, 22, 4, 2),
@@ -209,6 +238,11 @@ impl Injection {
 }
 
 impl Interrupt {
+    /// What a delivery adds to the PC of a state for its link.
+    pub fn correction(self, state: &State) -> i64 {
+        self.entry().correction(&Status::unpack(state.status))
+    }
+
     /// A virtual abort enters as a data abort does.
     fn entry(self) -> Entry {
         let (mode, vector, link, correction, sets_f) = match self {
@@ -264,6 +298,23 @@ pub fn interrupt(state: &State, old: &Status, interrupt: Interrupt) -> State {
     after
 }
 
+/// The return: the state in the place that the current mode's saved word and link tell,
+/// or the number of the refusal. The correction is what was added to PC for the link.
+pub fn resume(state: &State, correction: i64) -> Result<State, u8> {
+    let accepted = |word: u32| {
+        let status = Status::unpack(word);
+        status.is_accepted(&state.marks).then_some(status).ok_or(9)
+    };
+    let current = accepted(state.status)?.mode;
+    // User and System mode are none of these.
+    let mode = Mode::ALL.into_iter().find(|mode| mode.number() == current).ok_or(9)?;
+    let mut after = state.clone();
+    after.status = *mode.spsr(&mut after);
+    accepted(after.status)?;
+    after.pc = modulo_2_32(i64::from(state.registers[mode.link()]) - correction);
+    Ok(after)
+}
+
 /// Tests 9 and 10: the status word's fields, or the number of the refusal.
 pub fn status_of(state: &State) -> Result<Status, u8> {
     let status = Status::unpack(state.status);
@@ -278,8 +329,7 @@ pub fn status_of(state: &State) -> Result<Status, u8> {
 
 /// Exception entry: the link, the saved status, the new status and PC.
 fn enter(state: &mut State, old: &Status, entry: &Entry) {
-    let correction = if old.t { entry.correction_t32 } else { entry.correction_a32 };
-    state.registers[entry.link] = modulo_2_32(i64::from(state.pc) + correction);
+    state.registers[entry.link] = modulo_2_32(i64::from(state.pc) + entry.correction(old));
     *entry.mode.spsr(state) = state.status;
     let sctlr = state.sctlr();
     let new = Status {

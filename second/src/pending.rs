@@ -1,7 +1,9 @@
 //! Waiting interrupts, by tickets: a raise hands out the next number, and the smallest
-//! number whose interrupt isn't masked is served.
+//! number whose interrupt isn't masked is served. And runs of calls on one guest: raises,
+//! delivery steps, injections and returns.
 
-use crate::guest::{interrupt, status_of, Interrupt, State};
+use crate::call::{injection_of, injection_row};
+use crate::guest::{inject, interrupt, resume, status_of, Injection, Interrupt, State};
 
 /// The number that each interrupt which waits was given, and the next one.
 #[derive(Clone, Default)]
@@ -54,15 +56,45 @@ impl Tickets {
     }
 }
 
-/// A call of a run. A step is made on the state that the step before it left, with some
-/// of its numbers changed first, each given by its place.
+/// A call of a run. Each but a raise is made on the state that the call before it left;
+/// before a step some of its numbers are changed, each given by its place.
 #[derive(Clone, Debug, PartialEq, Eq)]
 pub enum RunCall {
     Raise(Interrupt),
     Step { changes: Vec<(usize, u64)> },
+    Inject(Injection),
+    Return(Correction),
 }
 
-/// Calls in their order, and the state of the first step before its changes.
+/// A signed number of 32 bits by its sign and its size, which may be 0 with either sign.
+#[derive(Clone, Copy, Debug, PartialEq, Eq)]
+pub struct Correction {
+    pub minus: bool,
+    pub size: u32,
+}
+
+impl Correction {
+    /// The number as it is told: 0 has no sign.
+    pub fn of(number: i64) -> Correction {
+        let size = u32::try_from(number.unsigned_abs()).expect("32 bits");
+        Correction { minus: number < 0, size }
+    }
+
+    fn number(self) -> i64 {
+        let size = i64::from(self.size);
+        if self.minus {
+            -size
+        } else {
+            size
+        }
+    }
+
+    fn row(self) -> [u64; 2] {
+        [self.minus.into(), self.size.into()]
+    }
+}
+
+/// Calls in their order, and the state before them.
 #[derive(Clone, Debug, PartialEq, Eq)]
 pub struct Run {
     pub state: State,
@@ -87,6 +119,14 @@ impl Run {
                     row.extend(changes.iter().flat_map(|&(place, number)| [place as u64, number]));
                     row.push(END);
                 }
+                RunCall::Inject(injection) => {
+                    row.push(2);
+                    row.extend(injection_row(injection));
+                }
+                RunCall::Return(correction) => {
+                    row.push(3);
+                    row.extend(correction.row());
+                }
             }
         }
         row
@@ -110,23 +150,25 @@ impl Run {
     /// Whether every change leaves a state: 32 bits in a word, a flag in a mark.
     fn states_are_states(&self) -> bool {
         let changes = self.calls.iter().flat_map(|call| match call {
-            RunCall::Raise(_) => [].iter(),
             RunCall::Step { changes } => changes.iter(),
+            _ => [].iter(),
         });
         changes.into_iter().all(|&change| with_change(&self.state, change).is_some())
     }
 
-    /// What each call answers: a raise 0; a step its number, what it delivered, and the
-    /// numbers that it changed in the state, each after its place.
+    /// What each call answers: a raise 0; a step its number and what it delivered; an
+    /// injection its number and its correction; a return its number. But for a raise the
+    /// numbers follow that the call changed in the state, each after its place.
     pub fn answer(&self) -> Vec<u64> {
         let mut tickets = Tickets::default();
         let mut state = self.state.clone();
         let mut answer = Vec::new();
         for call in &self.calls {
-            match call {
+            let after = match call {
                 RunCall::Raise(which) => {
                     tickets.raise(*which);
                     answer.push(0);
+                    continue;
                 }
                 RunCall::Step { changes } => {
                     for &change in changes {
@@ -138,13 +180,34 @@ impl Run {
                         Step::Delivered(which, after) => (0, 1 + which as u64, after),
                     };
                     answer.extend([number.into(), name]);
-                    answer.extend(state.changes_to(&after));
-                    answer.push(END);
-                    state = after;
+                    after
                 }
-            }
+                RunCall::Inject(injection) => {
+                    let (number, after) = taken_or_refused(inject(&state, injection), &state);
+                    answer.push(number);
+                    answer.extend(Correction::of(injection.correction(&state)).row());
+                    after
+                }
+                RunCall::Return(correction) => {
+                    let (number, after) =
+                        taken_or_refused(resume(&state, correction.number()), &state);
+                    answer.push(number);
+                    after
+                }
+            };
+            answer.extend(state.changes_to(&after));
+            answer.push(END);
+            state = after;
         }
         answer
+    }
+}
+
+/// The number of an answer, and the state after it: a refusal's is the one before.
+fn taken_or_refused(answer: Result<State, u8>, before: &State) -> (u64, State) {
+    match answer {
+        Ok(after) => (0, after),
+        Err(refusal) => (refusal.into(), before.clone()),
     }
 }
 
@@ -176,6 +239,14 @@ fn first_call(numbers: &[u64]) -> Option<(RunCall, &[u64])> {
                 }
             }
         }
+        [2, kind, fault, level, address, write, domain, rest @ ..] => {
+            let injection = injection_of([*kind, *fault, *level, *address, *write, *domain])?;
+            Some((RunCall::Inject(injection), rest))
+        }
+        [3, minus @ (0 | 1), size, rest @ ..] => {
+            let size = u32::try_from(*size).ok()?;
+            Some((RunCall::Return(Correction { minus: *minus == 1, size }), rest))
+        }
         _ => None,
     }
 }
@@ -184,6 +255,7 @@ fn first_call(numbers: &[u64]) -> Option<(RunCall, &[u64])> {
 mod tests {
     use super::*;
     use crate::cases::state;
+    use crate::guest::Fault;
     use crate::random::Random;
     use crate::status::Marks;
 
@@ -321,6 +393,67 @@ mod tests {
         assert_eq!(most, 2);
     }
 
+    /// What is equal in two states: all but the saved word and the link of some modes, by
+    /// their places, and the fault registers.
+    fn but_for(state: &State, places: &[(usize, usize)]) -> Vec<u64> {
+        let mut numbers = state.numbers();
+        let saved = places.iter().flat_map(|&(link, saved)| [link, saved]);
+        for place in saved.chain(38..42) {
+            numbers[place] = 0;
+        }
+        numbers
+    }
+
+    /// A return right after each injection, at both ends of PC's range.
+    #[test]
+    fn a_return_undoes_an_injection() {
+        let abort = |address| Injection::PrefetchAbort { fault: Fault::External, address };
+        let data =
+            Injection::DataAbort { fault: Fault::External, address: 1, write: true, domain: 3 };
+        let injections = [
+            (Injection::UndefinedAt, (22, 37)),
+            (Injection::UndefinedAfter, (22, 37)),
+            (Injection::SupervisorCall, (18, 35)),
+            (abort(0xffff_ffff), (20, 36)),
+            (data, (20, 36)),
+        ];
+        for (injection, places) in injections {
+            for pc in [0, 1, 0x8000, 0xffff_fffd, 0xffff_ffff] {
+                for status in [0x10, 0x30, 0x1f, 0xfe1f_ffd3] {
+                    let first = state(status, pc, 0x4000_0000);
+                    let taken = inject(&first, &injection).expect("taken");
+                    let back = resume(&taken, injection.correction(&first)).expect("returned");
+                    assert_eq!(but_for(&back, &[places]), but_for(&first, &[places]));
+                    let numbers = back.numbers();
+                    assert_eq!(numbers[places.0], u64::from(taken.registers[places.0]));
+                    assert_eq!(numbers[places.1], u64::from(first.status));
+                }
+            }
+        }
+    }
+
+    /// The saved word is that of the second.
+    #[test]
+    fn two_of_one_mode_do_not_come_back() {
+        let first = state(0x10, 0x8000, 0);
+        let once = inject(&first, &Injection::UndefinedAt).expect("taken");
+        let twice = inject(&once, &Injection::UndefinedAt).expect("taken");
+        let back = resume(&twice, 4).expect("returned");
+        assert_eq!(resume(&back, 4).expect("returned").status, 0x9b);
+    }
+
+    #[test]
+    fn a_return_is_refused_by_9_alone() {
+        let sound = State { vbar: 1, spsr_irq: 0x0020_0010, ..state(0x12, 0, 0) };
+        assert_eq!(resume(&sound, 0), Err(9));
+        let marked = State { marks: Marks::ALL, ..sound.clone() };
+        assert_eq!(resume(&marked, 0).expect("returned").pc, sound.registers[16]);
+        for status in [0x10, 0x1f, 0x16, 0x0100_0012] {
+            assert_eq!(resume(&State { status, ..marked.clone() }, 0), Err(9));
+        }
+        assert_eq!(resume(&State { spsr_irq: 0x1a, ..marked }, 0), Err(9));
+    }
+
     #[test]
     fn a_run_is_parsed_back() {
         let run = Run {
@@ -328,6 +461,8 @@ mod tests {
             calls: vec![
                 RunCall::Raise(Interrupt::Irq),
                 RunCall::Step { changes: vec![(32, 0x90), (47, 1)] },
+                RunCall::Inject(Injection::UndefinedAfter),
+                RunCall::Return(Correction { minus: true, size: 2 }),
                 RunCall::Step { changes: vec![] },
             ],
         };
@@ -342,11 +477,20 @@ mod tests {
         assert!(run(&[0, 2]).is_some());
         assert!(run(&[1, 48]).is_some());
         assert!(run(&[1, 0, 0xffff_ffff, 47, 1, 48]).is_some());
-        let bad: [&[u64]; 12] = [
+        assert!(run(&[2, 2, 0, 0, 0, 0, 0]).is_some());
+        assert!(run(&[3, 1, 0xffff_ffff]).is_some());
+        let bad: [&[u64]; 19] = [
             &[],
             &[0],
             &[0, 3],
             &[2],
+            &[2, 2, 0, 0, 0, 0],
+            &[2, 2, 1, 0, 0, 0, 0],
+            &[2, 5, 0, 0, 0, 0, 0],
+            &[3, 0],
+            &[3, 2, 0],
+            &[3, 0, 1 << 32],
+            &[4],
             &[1],
             &[1, 0],
             &[1, 0, 0],

@@ -321,9 +321,11 @@ fn runs_inputs() -> Vec<(String, Vec<u8>)> {
     let second = run(&[0; 48], "0 1 0 0 1 20 13 30 1 30");
     row_inputs([&first, &second], |random| {
         let state = random_state(random);
-        let calls = (0..8).map(|_| match random.below(2) {
+        let calls = (0..8).map(|_| match random.below(4) {
             0 => format!("0 {:x}", random.below(3)),
-            _ => format!("1 20 {:x} 30", 0x10 + (random.below(8) << 6)),
+            1 => format!("1 20 {:x} 30", 0x10 + (random.below(8) << 6)),
+            2 => format!("2 {:x} 0 0 0 0", random.below(3)),
+            _ => format!("3 {:x} {:x}", random.below(2), random.below(9)),
         });
         run(&state, &calls.collect::<Vec<_>>().join(" "))
     })

@@ -6,6 +6,7 @@ mod aborts;
 mod finish;
 mod inject;
 mod malformed;
+mod nests;
 mod pending;
 mod read;
 mod samples;
@@ -39,7 +40,8 @@ fn questions() -> Vec<String> {
         .chain(short::questions())
         .chain(a32::questions())
         .chain(pending::questions())
-        .chain(inject::domain_questions());
+        .chain(inject::domain_questions())
+        .chain(nests::questions());
     let calls: Vec<Call> = calls.collect();
     let derived = derived(&calls);
     calls.iter().chain(&derived).map(Call::line).collect()

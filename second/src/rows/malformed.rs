@@ -52,6 +52,7 @@ fn rows() -> Vec<String> {
     rows.push(format!("finlent 1{state} 6 11 1 ffff"));
     for word in ["run", "runlent"] {
         rows.push(format!("{word}{state} 0 2 1 20 10 2b 40 2d 1 30 1 30"));
+        rows.push(format!("{word}{state} 2 4 0 0 8000 1 3 1 2"));
     }
     rows
 }
@@ -122,6 +123,7 @@ fn runs() -> Vec<String> {
     let mut calls = vec![raises(24), raises(25), long(103), long(104)];
     let short = ["0", "1", "1 0", "1 0 0", "1 30 1", "0 0 30", "1 0 100000000 0 1 30"];
     calls.extend(short.map(String::from));
+    calls.extend(["2", "2 2 0 0 0 0", "3", "3 0", "3 0 0 3", "4"].map(String::from));
     let state = vec!["0"; 48].join(" ");
     let mut lines = vec![format!("run {state}")];
     lines.extend(calls.iter().map(|calls| format!("run {state} {calls}")));
