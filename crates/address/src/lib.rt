@@ -8,6 +8,7 @@ ghost use Rattle.address.specs.Page.{pageTop, hpfarRule, farRule, pageAd
 ghost use Rattle.address.specs.Shown.{virtualOf, abortIntermediate, intermediateOf};
 use bits::field;
 use record::Addresses;
+use record::Origin;
 
 // A fault address register word: FAR_EL2.
 pub struct Far(pub u64);
@@ -86,11 +87,11 @@ pub fn hpfar_rule(edition: u32, hpfar: Hpfar) -> bool
     (field(word, 63, above_page(edition)) == 0) & (field(word, 3, 0) == 0)
 }
 
-// Whether bits 63:32 are zero: the guest's addresses have 32 bits.
-pub fn far_rule(far: Far) -> bool
-    ensures { λ yes. ⌜ yes ≡ farRule far ⌝ }
+// Whether bits 63:32 are zero where an AArch32 guest's address has 32 bits; AArch64 has all 64.
+pub fn far_rule(origin: Origin, far: Far) -> bool
+    ensures { λ yes. ⌜ yes ≡ farRule origin far ⌝ }
 {
-    field(far.0, 63, 32) == 0
+    record::from_aarch64(origin) | (field(far.0, 63, 32) == 0)
 }
 
 // FAR, where it counts.

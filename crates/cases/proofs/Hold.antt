@@ -13,6 +13,7 @@ use Rattle.edition.specs.declared.Refusal.the-variants.{ShortInstruction, NoEdi
 use Rattle.form.specs.Call.{callOf}
 use Rattle.form.specs.Form as Form
 use Rattle.record.specs.Split.{recordOf}
+use Rattle.record.specs.declared.origin.Origin.{Origin}
 use Rattle.rule.specs.Has.{lawful, has}
 use Rattle.syndrome.specs.Reading.{readOf}
 use Rattle.syndrome.proofs.Everywhere.{taken-everywhere, short-everywhere, none-everywhere}
@@ -88,17 +89,17 @@ aborted s a status sctlr p is-sound high st sc =
 pub all-hold : AllHold starred
 unfolding readOf callOf Form.hasWord recordOf has lawful maskOf judgeOf ones isMode sound aligned entryStatus sumOf
 all-hold = (
-  λ e h. (_, taken-everywhere (record { 0 = 0x02000000 }) e h refl),
+  λ e h. (_, taken-everywhere Origin.AArch32 (record { 0 = 0x02000000 }) e h refl),
   (
-    λ e h. (ShortInstruction, short-everywhere (record { 0 = 0x00000000 }) e h refl refl refl, refl, refl, refl),
+    λ e h. (ShortInstruction, short-everywhere Origin.AArch32 (record { 0 = 0x00000000 }) e h refl refl refl, refl, refl, refl),
     (
-      λ e h. taken-everywhere (record { 0 = 0x93830045 }) e h refl,
+      λ e h. taken-everywhere Origin.AArch32 (record { 0 = 0x93830045 }) e h refl,
       (
-        λ e h. (_, taken-everywhere (record { 0 = 0x91830005 }) e h refl),
+        λ e h. (_, taken-everywhere Origin.AArch32 (record { 0 = 0x91830005 }) e h refl),
         (
-          λ e h. (ShortInstruction, short-everywhere (record { 0 = 0x90000005 }) e h refl refl refl, refl, refl, refl),
+          λ e h. (ShortInstruction, short-everywhere Origin.AArch32 (record { 0 = 0x90000005 }) e h refl refl refl, refl, refl, refl),
           (
-            λ e h. (NoEdition, none-everywhere (record { 0 = 0x93830085 }) e h refl refl refl refl, refl, refl, refl),
+            λ e h. (NoEdition, none-everywhere Origin.AArch32 (record { 0 = 0x93830085 }) e h refl refl refl refl, refl, refl, refl),
             (
               (OtherEditions 21845 8, refl, refl, refl, refl),
               (
@@ -108,7 +109,7 @@ all-hold = (
                   (
                     (OtherEditions 43690 8, refl, refl, refl, refl),
                     (
-                      λ e h. (NoEdition, none-everywhere (record { 0 = 0x92000810 }) e h refl refl refl refl, refl, refl, refl),
+                      λ e h. (NoEdition, none-everywhere Origin.AArch32 (record { 0 = 0x92000810 }) e h refl refl refl refl, refl, refl, refl),
                       (
                         (OtherEditions 21845 8, refl, refl, refl, refl),
                         (

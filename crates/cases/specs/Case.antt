@@ -1,4 +1,5 @@
--- A worked case (01, 'Cases from both sides of the line'), and what it says. What a case leaves open holds for every value of it.
+-- A worked case (01, 'Cases from both sides of the line'), and what it says. What a case leaves open holds for every value of it; its
+-- traps are from AArch32.
 use mathlib.Core.Path.{_≡_}
 use mathlib.Core.Bool.{true}
 use mathlib.Core.List.{List, [], _∷_}
@@ -8,6 +9,7 @@ use lib.ListN.{length, getD}
 use Rattle.edition.specs.Feature.{editions}
 use Rattle.edition.specs.Judge.{refusalNumber, refusalMask, refusalCount}
 use Rattle.edition.specs.declared.Refusal.{Refusal}
+use Rattle.record.specs.declared.origin.Origin.{Origin}
 use Rattle.record.specs.declared.kinds.Record.{Record}
 use Rattle.syndrome.specs.Reading.{readOf}
 use Rattle.syndrome.specs.declared.answer.Read.{Read}
@@ -86,8 +88,8 @@ pub record Passing (s : Guest) (a : Access) : Type 0 where
   pub address : addressFits (DataAbort a) ≡ true
 
 abbrev pub Holds : Case → Type 0
-Holds (reads-in e w answers) = AnswersAs (readOf e (record { 0 = w })) answers
-Holds (reads w answers) = (e : ℕ) → e < editions → AnswersAs (readOf e (record { 0 = w })) answers
+Holds (reads-in e w answers) = AnswersAs (readOf Origin.AArch32 e (record { 0 = w })) answers
+Holds (reads w answers) = (e : ℕ) → e < editions → AnswersAs (readOf Origin.AArch32 e (record { 0 = w })) answers
 Holds (undefined-at before after) =
     (s : Guest) → Whole s → s .status ≡ before .status → s .pc ≡ before .pc → s .vbar ≡ before .vbar → s .sctlr ≡ before .sctlr
     → Leaves s UndefinedAt (after .status) (after .link) (after .pc)

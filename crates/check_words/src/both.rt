@@ -1,9 +1,10 @@
-// `both FIRST SECOND ESR FAR HPFAR`: trap::read_both.
+// `both ORIGIN FIRST SECOND ESR FAR HPFAR`: trap::read_both.
 use super::trapped::refused;
 use super::trapped::with_trap;
 use address::Far;
 use address::Hpfar;
 use record::Esr;
+use record_rows::origin;
 use rows::Reply;
 use rows::Row;
 use rows::long;
@@ -18,11 +19,13 @@ fn shown(answer: Both) -> Reply {
 }
 
 pub fn answer(row: Row) -> Reply {
-    if !rows::shaped(row, b"wwddd") {
+    if !rows::shaped(row, b"fwwddd") {
         return rows::no_row();
     }
-    let esr = Esr(long(row, 2));
-    let far = Far(long(row, 3));
-    let hpfar = Hpfar(long(row, 4));
-    shown(trap::read_both(word(row, 0), word(row, 1), esr, far, hpfar))
+    let esr = Esr(long(row, 3));
+    let far = Far(long(row, 4));
+    let hpfar = Hpfar(long(row, 5));
+    let first = word(row, 1);
+    let second = word(row, 2);
+    shown(trap::read_both(origin(row, 0), first, second, esr, far, hpfar))
 }

@@ -1,6 +1,7 @@
-// `read EDITION WORD`: syndrome::read.
+// `read ORIGIN EDITION WORD`: syndrome::read.
 use super::refusal;
 use record::Esr;
+use record_rows::origin;
 use record_rows::with_record;
 use rows::Reply;
 use rows::Row;
@@ -14,8 +15,8 @@ pub fn shown(answer: Read) -> Reply {
 }
 
 pub fn answer(row: Row) -> Reply {
-    if !rows::shaped(row, b"wd") {
+    if !rows::shaped(row, b"fwd") {
         return rows::no_row();
     }
-    shown(syndrome::read(rows::word(row, 0), Esr(rows::long(row, 1))))
+    shown(syndrome::read(origin(row, 0), rows::word(row, 1), Esr(rows::long(row, 2))))
 }

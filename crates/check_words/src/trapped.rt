@@ -1,9 +1,10 @@
-// `trap EDITION ESR FAR HPFAR`: trap::read.
+// `trap ORIGIN EDITION ESR FAR HPFAR`: trap::read.
 use address::Far;
 use address::Hpfar;
 use address::IntermediateAddress;
 use address::VirtualAddress;
 use record::Esr;
+use record_rows::origin;
 use record_rows::with_record;
 use rows::Reply;
 use rows::Row;
@@ -68,11 +69,11 @@ fn shown(answer: Answer) -> Reply {
 }
 
 pub fn answer(row: Row) -> Reply {
-    if !rows::shaped(row, b"wddd") {
+    if !rows::shaped(row, b"fwddd") {
         return rows::no_row();
     }
-    let esr = Esr(long(row, 1));
-    let far = Far(long(row, 2));
-    let hpfar = Hpfar(long(row, 3));
-    shown(trap::read(rows::word(row, 0), esr, far, hpfar))
+    let esr = Esr(long(row, 2));
+    let far = Far(long(row, 3));
+    let hpfar = Hpfar(long(row, 4));
+    shown(trap::read(origin(row, 0), rows::word(row, 1), esr, far, hpfar))
 }

@@ -1,6 +1,7 @@
-// `write EDITION RECORD`: syndrome::write.
+// `write ORIGIN EDITION RECORD`: syndrome::write.
 use super::refusal;
 use record_rows::Given;
+use record_rows::origin;
 use rows::Reply;
 use rows::Row;
 use syndrome::Written;
@@ -13,11 +14,11 @@ pub fn shown(answer: Written) -> Reply {
 }
 
 pub fn answer(row: Row) -> Reply {
-    if !rows::begins(row, b"w") {
+    if !rows::begins(row, b"fw") {
         return rows::no_row();
     }
-    match record_rows::from_row(rows::rest(row, 1)) {
-        Given::Record(r) => shown(syndrome::write(rows::word(row, 0), r)),
+    match record_rows::from_row(rows::rest(row, 2)) {
+        Given::Record(r) => shown(syndrome::write(origin(row, 0), rows::word(row, 1), r)),
         Given::None => rows::no_row(),
     }
 }

@@ -1,6 +1,6 @@
 -- Laws of the answer, and of the state beside it, for every record, device value and state.
 use mathlib.Core.Path.{_≡_, refl, sym, ap, _∙_}
-use mathlib.Core.Bool.{Bool, true, false, cond}
+use mathlib.Core.Bool.{Bool, true, false, cond, not}
 use mathlib.Core.List.{[], _∷_}
 use mathlib.Core.Logic.{_↔_}
 use Prim.Native.Nat.{ℕ}
@@ -8,9 +8,12 @@ use lib.Dec.{T, eqb}
 use Rattle.bits.specs.Decide.{needs, decide, FirstFails}
 use Rattle.bits.proofs.Arms.{told}
 use Rattle.bits.proofs.Deciding.{decide-relabel, decided-exactly, answer-is}
+use Rattle.record.specs.Class.{isClass, headOf}
+use Rattle.record.specs.declared.origin.Origin.{Origin}
 use Rattle.record.specs.declared.kinds.DataAbort.{DataAbort}
 use Rattle.record.specs.declared.kinds.Record.{Record}
 use Rattle.bits.specs.Among.{among}
+use Rattle.rule.proofs.Having.{origin-lacks}
 use Rattle.status.specs.Sound.{sound}
 use Rattle.exception.specs.declared.state.Guest.{Guest}
 use Rattle.device.specs.declared.access.Described.{Described}
@@ -28,6 +31,10 @@ module _ (s : Guest) (r : Record) (value : ℕ) where
   pub no-edition : had r ≡ false → refusing NoEdition s ≡ finished s r value
   unfolding finished
   no-edition e = rw e
+
+  -- so a record of a class that only AArch64 has is refused 5
+  pub other-origin : isClass Origin.AArch32 (headOf r .class) ≡ false → refusing NoEdition s ≡ finished s r value
+  other-origin lacking = no-edition (ap (λ (mask : ℕ). not (eqb mask 0)) (origin-lacks Origin.AArch32 r lacking))
 
   pub unsound : had r ≡ true → sound (s .marks) (s .status) ≡ false → refusing UnsoundStatus s ≡ finished s r value
   unfolding finished

@@ -12,43 +12,44 @@ use Rattle.bits.proofs.Booleans.{and-left, and-right, both-left, both-right}
 use Rattle.edition.specs.Feature.{editions}
 use Rattle.edition.specs.Mask.{maskBelow, maskOf}
 use Rattle.edition.proofs.Masks.{some-or-none, mask-zero}
-use Rattle.iss.specs.Rule.{implies, abortRule, extensionRule, maintenanceRule}
+use Rattle.iss.specs.Rule.{implies, abortRule, maintenanceRule}
 use Rattle.record.specs.declared.kinds.DataAbort.{DataAbort}
+use Rattle.record.specs.declared.origin.Origin.{Origin}
 use Rattle.record.specs.declared.kinds.Record.{Record}
 use Rattle.record.specs.declared.kinds.Sort.{Sort}
 use Rattle.layout.specs.Fields.{fieldsOf}
 use Rattle.record.specs.Sort.{sortOf}
 use Rattle.record.proofs.Sorts.{data-abort-sort}
-use Rattle.rule.specs.Has.{has, editionsOf}
-use Rattle.rule.specs.Rule.{noSyndromeRule, validSyndromeRule, syndromeRule, dataRule}
+use Rattle.rule.specs.Has.{has}
+use Rattle.rule.specs.Rule.{noSyndromeRule, validSyndromeRule, syndromeRule, extensionFrom, dataRule}
 use Rattle.rule.proofs.Having.{has-fits, has-layout}
 use Rattle.device.specs.declared.access.Described.{Described}
 use Rattle.device.specs.declared.access.Described.the-variants.{Access, Nothing}
 use Rattle.device.specs.Finish.{had, describedBy, describedOf}
 
 -- test 5 in plain words: some edition has the record, or none has
-pub had-some : (r : Record) → had r ≡ true → (e : ℕ) × (e < editions) × (has e r ≡ true)
+pub had-some : (r : Record) → had r ≡ true → (e : ℕ) × (e < editions) × (has Origin.AArch32 e r ≡ true)
 unfolding maskOf
 had-some r h =
-    ⊎-elim (λ z. absurd (true≢false (sym h ∙ ap not (eq-eqb (maskBelow editions (λ e. has e r)) 0 z)))) (λ found. found)
-    (some-or-none editions (λ e. has e r))
+    ⊎-elim (λ z. absurd (true≢false (sym h ∙ ap not (eq-eqb (maskBelow editions (λ e. has Origin.AArch32 e r)) 0 z)))) (λ found. found)
+    (some-or-none editions (λ e. has Origin.AArch32 e r))
 
-module _ (a : DataAbort) (e : ℕ) (h : has e (Record.DataAbort a) ≡ true) (v : a .isv ≡ true) where
-  rule-of : syndromeRule a ≡ true
+module _ (a : DataAbort) (e : ℕ) (h : has Origin.AArch32 e (Record.DataAbort a) ≡ true) (v : a .isv ≡ true) where
+  rule-of : syndromeRule Origin.AArch32 a ≡ true
   rule-of =
-      let layout = has-layout e (Record.DataAbort a) h in
-      let rules = and-right (abortRule (a .fnv) (a .ea) (a .s1ptw) (a .code)) (dataRule a) layout in
-      let front = and-left (syndromeRule a && extensionRule (a .sse) (a .sas) (a .wnr)) (maintenanceRule (a .cm) (a .wnr)) rules in
-      and-left (syndromeRule a) (extensionRule (a .sse) (a .sas) (a .wnr)) front
+      let layout = has-layout Origin.AArch32 e (Record.DataAbort a) h in
+      let rules = and-right (abortRule (a .fnv) (a .ea) (a .s1ptw) (a .code)) (dataRule Origin.AArch32 a) layout in
+      let front = and-left (syndromeRule Origin.AArch32 a && extensionFrom Origin.AArch32 a) (maintenanceRule (a .cm) (a .wnr)) rules in
+      and-left (syndromeRule Origin.AArch32 a) (extensionFrom Origin.AArch32 a) front
 
-  valid : validSyndromeRule a ≡ true
+  valid : validSyndromeRule Origin.AArch32 a ≡ true
   valid =
-      ap (λ (b : Bool). implies b (validSyndromeRule a)) (sym v)
-      ∙ and-right ((a .isv) || noSyndromeRule a) (implies (a .isv) (validSyndromeRule a)) rule-of
+      ap (λ (b : Bool). implies b (validSyndromeRule Origin.AArch32 a)) (sym v)
+      ∙ and-right ((a .isv) || noSyndromeRule a) (implies (a .isv) (validSyndromeRule Origin.AArch32 a)) rule-of
 
   srt-fits : a .srt < 32
   srt-fits =
-      let t = has-fits e (Record.DataAbort a) h in
+      let t = has-fits Origin.AArch32 e (Record.DataAbort a) h in
       ltb→lt (a .srt) 32 (both-left (ltb (a .srt) 32) _ (both-right (ltb (a .sas) 4) _ t))
 
   not-31 : not (eqb (a .srt) 31) ≡ true
@@ -101,5 +102,5 @@ access-valid r {a} h d =
     let o = only-valid r d in
     let found = had-some r h in
     let e = found .0 in
-    let it : has e (Record.DataAbort a) ≡ true = sym (ap (has e) (o .0)) ∙ found .2 in
+    let it : has Origin.AArch32 e (Record.DataAbort a) ≡ true = sym (ap (has Origin.AArch32 e) (o .0)) ∙ found .2 in
     (srt-below a e it (o .1), sas-below a e it (o .1))

@@ -7,6 +7,7 @@ use Rattle.bits.specs.Decide.{Test, needs, decide}
 use Rattle.bits.specs.Field.{bitOf}
 use Rattle.record.specs.declared.kinds.DataAbort.{DataAbort}
 use Rattle.record.specs.Sort.{sortOf}
+use Rattle.record.specs.declared.origin.Origin.{Origin}
 use Rattle.record.specs.declared.kinds.Record.{Record}
 use Rattle.record.specs.declared.kinds.Sort.{Sort}
 use Rattle.rule.specs.Has.{editionsOf}
@@ -23,9 +24,9 @@ use Rattle.device.specs.Data.{transferred, extended}
 
 -- ---- the tests
 
--- 5: some edition has the record
+-- 5: some edition has the record, from AArch32, which the guest's state is (02, C-23)
 abbrev pub had : Record → Bool
-had r = not (eqb (editionsOf r) 0)
+had r = not (eqb (editionsOf Origin.AArch32 r) 0)
 
 -- 18: a data abort with ISV 1 describes its access, and no other record does
 abbrev pub describedBy : Sort → Described

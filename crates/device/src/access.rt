@@ -10,6 +10,7 @@ use exception::Guest;
 use exception::register;
 use exception::with_register;
 use record::DataAbort;
+use record::Origin;
 use record::Record;
 use record::Sort;
 use status::it_advanced;
@@ -86,11 +87,11 @@ fn accessed(state: Guest, abort: DataAbort, value: u32) -> Finished
     }
 }
 
-// The answer, with the state after it: a refusal's is the state that came. A store doesn't look at the value.
+// The answer, with the state after it: a refusal's is the state that came. A store doesn't look at the value. The guest's state is AArch32's, and so is the record.
 pub fn finish(state: Guest, what: Record, value: u32) -> Finished
     ensures { λ r. ⌜ FinishPromise state what value r ⌝ }
 {
-    if rule::editions(what) == 0 {
+    if rule::editions(Origin::AArch32, what) == 0 {
         return Finished {
             answer: Answer::NoEdition,
             state,

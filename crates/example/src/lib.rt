@@ -10,6 +10,7 @@ use guest::Fetch;
 use guest::Guest;
 use guest::Injection;
 use record::Esr;
+use record::Origin;
 use record::Record;
 use trap::Abort;
 use trap::Trap;
@@ -160,7 +161,7 @@ pub fn answer(
 ) -> Answered
     ensures { λ r. ⌜ AsFound state r ⌝ }
 {
-    match trap::read(edition, esr, far, hpfar) {
+    match trap::read(Origin::AArch32, edition, esr, far, hpfar) {
         trap::Answer::Refused(refusal) => Answered {
             next: Next::Refused(trap::number(refusal)),
             state,

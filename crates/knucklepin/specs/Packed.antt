@@ -1,7 +1,8 @@
--- The answers of the reader and the writer as single numbers.
+-- The answers of the reader and the writer as single numbers, from each origin.
 use Prim.Native.Nat.{ℕ, _+_, _-_, _*_, _^_}
 use Rattle.edition.specs.Judge.{refusalNumber, refusalMask, refusalCount}
 use Rattle.edition.specs.declared.Refusal.{Refusal}
+use Rattle.record.specs.declared.origin.Origin.{Origin}
 use Rattle.syndrome.specs.Answer.{readNumbers}
 use Rattle.syndrome.specs.Reading.{readOf}
 use Rattle.syndrome.specs.Writing.{writeOf}
@@ -15,17 +16,17 @@ packedRefusal f = refusalNumber f + refusalMask f * 2 ^ 8 + refusalCount f * 2 ^
 abbrev pub packedAnswer : Read → ℕ
 packedAnswer a = readNumbers .number a + readNumbers .mask a * 2 ^ 8 + readNumbers .count a * 2 ^ 24
 
-abbrev pub packedRead : ℕ → ℕ → ℕ
-packedRead e w = packedAnswer (readOf e (record { 0 = w }))
+abbrev pub packedRead : Origin → ℕ → ℕ → ℕ
+packedRead o e w = packedAnswer (readOf o e (record { 0 = w }))
 
 -- the word that a record is written to, or all ones
 abbrev pub wordOr : Written → ℕ
 wordOr (Written.Word esr) = esr .0
 wordOr (Written.Refused f) = 2 ^ 64 - 1
 
-abbrev pub rewrittenFrom : ℕ → Read → ℕ
-rewrittenFrom writer (Read.Taken r) = wordOr (writeOf writer r)
-rewrittenFrom writer (Read.Refused f) = 2 ^ 64 - 1
+abbrev pub rewrittenFrom : Origin → ℕ → Read → ℕ
+rewrittenFrom o writer (Read.Taken r) = wordOr (writeOf o writer r)
+rewrittenFrom o writer (Read.Refused f) = 2 ^ 64 - 1
 
-abbrev pub rewritten : ℕ → ℕ → ℕ → ℕ
-rewritten reader writer w = rewrittenFrom writer (readOf reader (record { 0 = w }))
+abbrev pub rewritten : Origin → ℕ → ℕ → ℕ → ℕ
+rewritten o reader writer w = rewrittenFrom o writer (readOf o reader (record { 0 = w }))

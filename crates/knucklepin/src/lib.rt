@@ -1,5 +1,6 @@
 // The readers and writers for programs in other languages: `rt staticlib knucklepin`.
 ghost use mathlib.Core.Path.{_≡_};
+ghost use Rattle.record.specs.declared.origin.Origin.{Origin};
 ghost use Rattle.knucklepin.specs.Packed.{packedRefusal, packedRead, rewritten};
 ghost use Rattle.knucklepin.specs.Short.{packedShortRead, rewrittenShort};
 ghost use Rattle.knucklepin.specs.A32.{transferNumber, formNumber, a32Form, rewrittenA32};
@@ -9,6 +10,7 @@ use a32_rule::Decoded;
 use a32_rule::Encoded;
 use edition::Refusal;
 use record::Esr;
+use record::Origin;
 use short_record::Hsr;
 use syndrome::Read;
 use syndrome::Written;
@@ -25,29 +27,59 @@ fn packed(refusal: Refusal) -> u64
         + edition::count(refusal) as u64 * 0x100_0000
 }
 
-// Reads a syndrome word: 0 where it is taken, else the refusal as one number.
-#[no_mangle]
-pub extern "C" fn knucklepin_read(edition: u32, word: u64) -> u64
-    ensures { λ n. ⌜ n ≡ packedRead edition word ⌝ }
+// What reading a syndrome word answers: 0 where it is taken, else the refusal as one number.
+fn read(origin: Origin, edition: u32, word: u64) -> u64
+    ensures { λ n. ⌜ n ≡ packedRead origin edition word ⌝ }
 {
-    match syndrome::read(edition, Esr(word)) {
+    match syndrome::read(origin, edition, Esr(word)) {
         Read::Taken(_) => 0,
         Read::Refused(refusal) => packed(refusal),
     }
 }
 
-// Reads a syndrome word in one edition and writes the record in another: the word, or all ones where either refuses.
-#[no_mangle]
-pub extern "C" fn knucklepin_rewrite(reader: u32, writer: u32, word: u64) -> u64
-    ensures { λ w. ⌜ w ≡ rewritten reader writer word ⌝ }
+// What reading a syndrome word in one edition and writing the record in another gives: the word, or all ones where either refuses.
+fn rewrite(origin: Origin, reader: u32, writer: u32, word: u64) -> u64
+    ensures { λ w. ⌜ w ≡ rewritten origin reader writer word ⌝ }
 {
-    match syndrome::read(reader, Esr(word)) {
-        Read::Taken(r) => match syndrome::write(writer, r) {
+    match syndrome::read(origin, reader, Esr(word)) {
+        Read::Taken(r) => match syndrome::write(origin, writer, r) {
             Written::Word(esr) => esr.0,
             Written::Refused(_) => REFUSED,
         },
         Read::Refused(_) => REFUSED,
     }
+}
+
+// Reads a syndrome word of a trap from AArch32.
+#[no_mangle]
+pub extern "C" fn knucklepin_read(edition: u32, word: u64) -> u64
+    ensures { λ n. ⌜ n ≡ packedRead Origin.AArch32 edition word ⌝ }
+{
+    read(Origin::AArch32, edition, word)
+}
+
+// Reads a syndrome word of a trap from AArch32 in one edition and writes the record in another.
+#[no_mangle]
+pub extern "C" fn knucklepin_rewrite(reader: u32, writer: u32, word: u64) -> u64
+    ensures { λ w. ⌜ w ≡ rewritten Origin.AArch32 reader writer word ⌝ }
+{
+    rewrite(Origin::AArch32, reader, writer, word)
+}
+
+// The same of a trap from AArch64.
+#[no_mangle]
+pub extern "C" fn knucklepin_aarch64_read(edition: u32, word: u64) -> u64
+    ensures { λ n. ⌜ n ≡ packedRead Origin.AArch64 edition word ⌝ }
+{
+    read(Origin::AArch64, edition, word)
+}
+
+// The same of a trap from AArch64.
+#[no_mangle]
+pub extern "C" fn knucklepin_aarch64_rewrite(reader: u32, writer: u32, word: u64) -> u64
+    ensures { λ w. ⌜ w ≡ rewritten Origin.AArch64 reader writer word ⌝ }
+{
+    rewrite(Origin::AArch64, reader, writer, word)
 }
 
 // Reads a word of the short form: 0 where it is taken, else the refusal as one number.

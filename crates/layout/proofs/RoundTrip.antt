@@ -7,9 +7,9 @@ use lib.Dec.{T, eqb, lit≤}
 use Rattle.bits.specs.Field.{fieldOf, bitOf, digit}
 use Rattle.bits.specs.Layout.{fitting, ordered}
 use Rattle.bits.specs.Inner.{joinedFrom}
-use Rattle.bits.proofs.Among.{among-each, among-all, among-other}
+use Rattle.bits.proofs.Among.{among-each, among-other}
 use Rattle.bits.proofs.Fields.{AllBack, all-back, word-below, joined-word, flag-back}
-use Rattle.record.specs.Class.{isClass, plainClasses, mcrClasses, mcrrClasses, callClasses, debugClasses, headOf}
+use Rattle.record.specs.Class.{plainClasses, mcrClasses, mcrrClasses, callClasses, debugClasses, headOf}
 use Rattle.layout.specs.Fields.{plainFields, wfxFields, callFields, smcFields, fieldsOf, recordWord}
 use Rattle.record.specs.Split.{plainAt, wfxAt, mcrAt, mcrrAt, callAt, smcAt, debugAt, recordOf, recordAt}
 use Rattle.record.specs.declared.kinds.Plain.{Plain}
@@ -34,6 +34,7 @@ fields-ordered (Record.Debug r) = tt
 fields-ordered (Record.Step r) = tt
 fields-ordered (Record.Watchpoint r) = tt
 fields-ordered (Record.SError r) = tt
+fields-ordered (Record.System r) = tt
 
 module _ (w : ℕ) where
   -- the kinds that the short form has too, at the bits of a word that holds their fields
@@ -134,7 +135,7 @@ module _ (w : ℕ) where
       })
   at-bits (Record.Call r) own b =
       ap (λ (c : ℕ). recordOf c w) (b .0)
-      ∙ among-each callClasses (λ c. recordOf c w ≡ Record.Call (callAt c w)) (refl, (refl, (refl, tt))) (r .class) own
+      ∙ among-each callClasses (λ c. recordOf c w ≡ Record.Call (callAt c w)) (refl, (refl, (refl, (refl, (refl, (refl, tt)))))) (r .class) own
       ∙ ap Record.Call (call-back r b)
   at-bits (Record.Smc r) own b =
       ap (λ (c : ℕ). recordOf c w) (b .0)
@@ -202,6 +203,19 @@ module _ (w : ℕ) where
         ea = flag-back w 9 (r .ea) (b .1 .1 .1 .0) i;
         code = (b .1 .1 .1 .1 .0) i;
       })
+  at-bits (Record.System r) own b =
+      ap (λ (c : ℕ). recordOf c w) (b .0)
+      ∙ ap Record.System
+      (λ i. record {
+        il = flag-back w 25 (r .il) (b .1 .0) i;
+        op0 = (b .1 .1 .0) i;
+        op2 = (b .1 .1 .1 .0) i;
+        op1 = (b .1 .1 .1 .1 .0) i;
+        crn = (b .1 .1 .1 .1 .1 .0) i;
+        rt = (b .1 .1 .1 .1 .1 .1 .0) i;
+        crm = (b .1 .1 .1 .1 .1 .1 .1 .0) i;
+        direction = flag-back w 0 (r .direction) (b .1 .1 .1 .1 .1 .1 .1 .1 .0) i;
+      })
 
 -- what stands at the bits of a record's word: each field's value
 word-back : (r : Record) → T (fitting (fieldsOf r)) → AllBack (recordWord r) (fieldsOf r)
@@ -236,6 +250,7 @@ module _ (w : ℕ) where
   heads-at (Record.Step r) b = (b .0, flag-back w 25 (r .il) (b .1 .0))
   heads-at (Record.Watchpoint r) b = (b .0, flag-back w 25 (r .il) (b .1 .0))
   heads-at (Record.SError r) b = (b .0, flag-back w 25 (r .il) (b .1 .0))
+  heads-at (Record.System r) b = (b .0, flag-back w 25 (r .il) (b .1 .0))
 
   -- a test of the class and ISV, which asks for ISV at class 0x24 alone, says the same of bit 24 of the word
   isv-at : (test : ℕ → Bool → Bool) → ((c : ℕ) → eqb c 0x24 ≡ false → (a b : Bool) → test c a ≡ test c b) → (r : Record) → headOf r .own ≡ true
@@ -254,6 +269,7 @@ module _ (w : ℕ) where
   isv-at test ignores (Record.Step r) own b = ignores 0x32 refl _ _
   isv-at test ignores (Record.Watchpoint r) own b = ignores 0x34 refl _ _
   isv-at test ignores (Record.SError r) own b = ignores 0x2F refl _ _
+  isv-at test ignores (Record.System r) own b = ignores 0x18 refl _ _
 
 -- a test of class, ISV and IL says the same of a record and of its word's bits
 pub head-test : (test : ℕ → Bool → Bool → Bool) → ((c : ℕ) → eqb c 0x24 ≡ false → (a b : Bool) (l : Bool) → test c a l ≡ test c b l) → (r : Record)
@@ -266,22 +282,6 @@ head-test test ignores r own fits =
     ap₂ (λ (c : ℕ) (l : Bool). test c (bitOf w 24) l) (h .0) (h .1)
     ∙ isv-at w (λ (c : ℕ) (a : Bool). test c a (headOf r .il)) (λ c other x y. ignores c other x y (headOf r .il)) r own b
 
--- a record's own class is one of the build's, and stands at EC
-pub class-known : (r : Record) → headOf r .own ≡ true → isClass (headOf r .class) ≡ true
-class-known (Record.Plain r) own = among-all plainClasses isClass tt (r .class) own
-class-known (Record.Wfx r) own = refl
-class-known (Record.Mcr r) own = among-all mcrClasses isClass tt (r .class) own
-class-known (Record.Mcrr r) own = among-all mcrrClasses isClass tt (r .class) own
-class-known (Record.Ldc r) own = refl
-class-known (Record.Simd r) own = refl
-class-known (Record.Call r) own = among-all callClasses isClass tt (r .class) own
-class-known (Record.Smc r) own = refl
-class-known (Record.InstructionAbort r) own = refl
-class-known (Record.DataAbort r) own = refl
-class-known (Record.Debug r) own = among-all debugClasses isClass tt (r .class) own
-class-known (Record.Step r) own = refl
-class-known (Record.Watchpoint r) own = refl
-class-known (Record.SError r) own = refl
-
-pub word-class : (r : Record) → headOf r .own ≡ true → T (fitting (fieldsOf r)) → isClass (fieldOf (recordWord r) 31 26) ≡ true
-word-class r own fits = ap isClass (heads-at (recordWord r) r (word-back r fits) .0) ∙ class-known r own
+-- a record's class stands at EC of its word
+pub word-class : (r : Record) → T (fitting (fieldsOf r)) → fieldOf (recordWord r) 31 26 ≡ headOf r .class
+word-class r fits = heads-at (recordWord r) r (word-back r fits) .0

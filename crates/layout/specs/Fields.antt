@@ -1,4 +1,4 @@
--- The layout lines (01, 'Layout of the word'; for C-20's classes source 001): where a record's class, IL and fields stand in the word. Bits that no line names are 0: so
+-- The layout lines (01, 'Layout of the word'; for C-20's classes source 001; for C-23's 02): where a record's class, IL and fields stand in the word. Bits that no line names are 0: so
 -- are IDS and IESB of an SError interrupt and VNCR of a watchpoint, which need features that no edition has.
 use Prim.Native.Nat.{ℕ}
 use mathlib.Core.Bool.{Bool}
@@ -18,6 +18,7 @@ use Rattle.record.specs.declared.kinds.Debug.{Debug}
 use Rattle.record.specs.declared.kinds.Step.{Step}
 use Rattle.record.specs.declared.kinds.Watchpoint.{Watchpoint}
 use Rattle.record.specs.declared.kinds.SError.{SError}
+use Rattle.record.specs.declared.kinds.System.{System}
 use Rattle.record.specs.declared.kinds.Record.{Record}
 
 -- EC is 31:26, IL 25, and the ISS stands below
@@ -89,6 +90,11 @@ watchpointFields r = head 0x34 (r .il) (flagAt 8 (r .cm) ∷ flagAt 6 (r .wnr) �
 abbrev pub serrorFields : SError → List Field
 serrorFields r = head 0x2F (r .il) (at 12 10 (r .aet) ∷ flagAt 9 (r .ea) ∷ at 5 0 (r .code) ∷ [])
 
+abbrev pub systemFields : System → List Field
+systemFields r =
+    head 0x18 (r .il)
+    (at 21 20 (r .op0) ∷ at 19 17 (r .op2) ∷ at 16 14 (r .op1) ∷ at 13 10 (r .crn) ∷ at 9 5 (r .rt) ∷ at 4 1 (r .crm) ∷ flagAt 0 (r .direction) ∷ [])
+
 abbrev pub fieldsOf : Record → List Field
 fieldsOf (Record.Plain r) = plainFields r
 fieldsOf (Record.Wfx r) = wfxFields r
@@ -104,6 +110,7 @@ fieldsOf (Record.Debug r) = debugFields r
 fieldsOf (Record.Step r) = stepFields r
 fieldsOf (Record.Watchpoint r) = watchpointFields r
 fieldsOf (Record.SError r) = serrorFields r
+fieldsOf (Record.System r) = systemFields r
 
 -- the word of a record: its class and fields at their bits, every other bit 0
 abbrev pub recordWord : Record → ℕ

@@ -2,7 +2,7 @@
 ghost use mathlib.Core.Path.{_≡_};
 ghost use mathlib.Core.List.{[]};
 ghost use Rattle.bits.specs.Inner.{joinedFrom};
-ghost use Rattle.layout.specs.Fields.{head, condition, plainFields, wfxFields, mcrFields, mcrrFields, ldcFields, simdFields, callFields, smcFields, instructionAbortFields, dataAbortFields, debugFields, stepFields, watchpointFields, serrorFields, fieldsOf};
+ghost use Rattle.layout.specs.Fields.{head, condition, plainFields, wfxFields, mcrFields, mcrrFields, ldcFields, simdFields, callFields, smcFields, instructionAbortFields, dataAbortFields, debugFields, stepFields, watchpointFields, serrorFields, systemFields, fieldsOf};
 use bits::flag;
 use bits::place;
 use record::Call;
@@ -18,6 +18,7 @@ use record::SError;
 use record::Simd;
 use record::Smc;
 use record::Step;
+use record::System;
 use record::Watchpoint;
 use record::Wfx;
 
@@ -156,6 +157,19 @@ fn serror(r: SError) -> u64
     head_of(0x2F, r.il) | place(r.aet, 12, 10) | flag(r.ea, 9) | place(r.code, 5, 0)
 }
 
+fn system(r: System) -> u64
+    ensures { λ w. ⌜ w ≡ joinedFrom 0 (systemFields r) ⌝ }
+{
+    head_of(0x18, r.il)
+        | place(r.op0, 21, 20)
+        | place(r.op2, 19, 17)
+        | place(r.op1, 16, 14)
+        | place(r.crn, 13, 10)
+        | place(r.rt, 9, 5)
+        | place(r.crm, 4, 1)
+        | flag(r.direction, 0)
+}
+
 // The whole record. Where its fields fit, this is the word of its layout.
 pub fn joined(r: Record) -> u64
     ensures { λ w. ⌜ w ≡ joinedFrom 0 (fieldsOf r) ⌝ }
@@ -175,5 +189,6 @@ pub fn joined(r: Record) -> u64
         Record::Step(fields) => step(fields),
         Record::Watchpoint(fields) => watchpoint(fields),
         Record::SError(fields) => serror(fields),
+        Record::System(fields) => system(fields),
     }
 }

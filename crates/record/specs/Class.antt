@@ -1,19 +1,30 @@
--- The exception classes of the build (01, 'What the build covers' and 'Layout of the word'; 02, C-20), by kind of record.
+-- The exception classes of the build (01, 'What the build covers' and 'Layout of the word'; 02, C-20 and C-23), by the trap's origin and by kind of record.
 use Prim.Native.Nat.{ℕ}
-use mathlib.Core.Bool.{Bool, true, false}
+use mathlib.Core.Bool.{Bool, true, false, cond}
 use mathlib.Core.List.{List, [], _∷_}
 use Rattle.bits.specs.Among.{among}
+use Rattle.record.specs.Origin.{fromAArch64}
+use Rattle.record.specs.declared.origin.Origin.{Origin}
 use Rattle.record.specs.declared.kinds.Record.{Record}
 use Rattle.record.specs.declared.kinds.Head.{Head}
 
--- the sixteen classes of 01 and the six of C-20; every other class is refused
-abbrev pub classes : List ℕ
-classes =
+-- from AArch32 the sixteen classes of 01 and the six of C-20
+abbrev pub aarch32Classes : List ℕ
+aarch32Classes =
     0x00 ∷ 0x01 ∷ 0x03 ∷ 0x04 ∷ 0x05 ∷ 0x06 ∷ 0x07 ∷ 0x08 ∷ 0x0C ∷ 0x0E ∷ 0x11 ∷ 0x12 ∷ 0x13 ∷ 0x20 ∷ 0x22 ∷ 0x24
     ∷ 0x2F ∷ 0x30 ∷ 0x32 ∷ 0x34 ∷ 0x38 ∷ 0x3A ∷ []
 
-abbrev pub isClass : ℕ → Bool
-isClass c = among classes c
+-- from AArch64 eleven of these, and the four of C-23: 0x03 to 0x06, 0x08, 0x0C, 0x11 to 0x13, 0x38 and 0x3A are refused there
+abbrev pub aarch64Classes : List ℕ
+aarch64Classes =
+    0x00 ∷ 0x01 ∷ 0x07 ∷ 0x0E ∷ 0x15 ∷ 0x16 ∷ 0x17 ∷ 0x18 ∷ 0x20 ∷ 0x22 ∷ 0x24 ∷ 0x2F ∷ 0x30 ∷ 0x32 ∷ 0x34 ∷ []
+
+-- every other class is refused
+abbrev pub classes : Origin → List ℕ
+classes o = cond (fromAArch64 o) aarch64Classes aarch32Classes
+
+abbrev pub isClass : Origin → ℕ → Bool
+isClass o c = among (classes o) c
 
 -- the kinds with several classes
 abbrev pub plainClasses : List ℕ
@@ -26,7 +37,7 @@ abbrev pub mcrrClasses : List ℕ
 mcrrClasses = 0x04 ∷ 0x0C ∷ []
 
 abbrev pub callClasses : List ℕ
-callClasses = 0x11 ∷ 0x12 ∷ 0x38 ∷ []
+callClasses = 0x11 ∷ 0x12 ∷ 0x15 ∷ 0x16 ∷ 0x17 ∷ 0x38 ∷ []
 
 abbrev pub debugClasses : List ℕ
 debugClasses = 0x30 ∷ 0x3A ∷ []
@@ -50,3 +61,4 @@ headOf (Record.Debug r) = withoutIsv (r .class) (among debugClasses (r .class)) 
 headOf (Record.Step r) = withoutIsv 0x32 true (r .il)
 headOf (Record.Watchpoint r) = withoutIsv 0x34 true (r .il)
 headOf (Record.SError r) = withoutIsv 0x2F true (r .il)
+headOf (Record.System r) = withoutIsv 0x18 true (r .il)

@@ -1,3 +1,4 @@
+pub mod Origin
 pub mod Class
 pub mod Sort
 pub mod Addresses

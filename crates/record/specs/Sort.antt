@@ -20,3 +20,4 @@ sortOf (Record.Debug r) = Sort.Plain
 sortOf (Record.Step r) = Sort.Plain
 sortOf (Record.Watchpoint r) = Sort.Addressed
 sortOf (Record.SError r) = Sort.SError r
+sortOf (Record.System r) = Sort.Plain

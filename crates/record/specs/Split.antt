@@ -21,6 +21,7 @@ use Rattle.record.specs.declared.kinds.Debug.{Debug}
 use Rattle.record.specs.declared.kinds.Step.{Step}
 use Rattle.record.specs.declared.kinds.Watchpoint.{Watchpoint}
 use Rattle.record.specs.declared.kinds.SError.{SError}
+use Rattle.record.specs.declared.kinds.System.{System}
 use Rattle.record.specs.declared.kinds.Record.{Record}
 
 abbrev pub plainAt : ℕ → ℕ → Plain
@@ -122,6 +123,19 @@ watchpointAt w = record { il = bitOf w 25; cm = bitOf w 8; wnr = bitOf w 6 }
 abbrev pub serrorAt : ℕ → SError
 serrorAt w = record { il = bitOf w 25; aet = fieldOf w 12 10; ea = bitOf w 9; code = fieldOf w 5 0 }
 
+abbrev pub systemAt : ℕ → System
+systemAt w =
+    record {
+      il = bitOf w 25;
+      op0 = fieldOf w 21 20;
+      op2 = fieldOf w 19 17;
+      op1 = fieldOf w 16 14;
+      crn = fieldOf w 13 10;
+      rt = fieldOf w 9 5;
+      crm = fieldOf w 4 1;
+      direction = bitOf w 0;
+    }
+
 -- a class with no layout reads as one without fields, which its kind lacks (`headOf r .own` is false)
 unfoldable pub recordOf : ℕ → ℕ → Record
 recordOf class w =
@@ -138,7 +152,8 @@ recordOf class w =
     (cond (eqb class 0x32) (Record.Step (stepAt w))
     (cond (eqb class 0x34) (Record.Watchpoint (watchpointAt w))
     (cond (eqb class 0x2F) (Record.SError (serrorAt w))
-    (Record.Plain (plainAt class w))))))))))))))
+    (cond (eqb class 0x18) (Record.System (systemAt w))
+    (Record.Plain (plainAt class w)))))))))))))))
 
 -- the class is EC, 31:26
 abbrev pub recordAt : ℕ → Record

@@ -1,9 +1,11 @@
-// Which classes there are, and which each kind of record has. The kinds with several classes have them in both forms alike, but for the calls.
+// Which classes there are from each origin, and which each kind of record has. The kinds with several classes have them in both forms alike, but for the calls.
 ghost use mathlib.Core.Path.{_≡_};
 ghost use Rattle.bits.specs.Among.{among};
-ghost use Rattle.record.specs.Class.{isClass, plainClasses, mcrClasses, mcrrClasses, callClasses, debugClasses, withoutIsv, headOf};
+ghost use Rattle.record.specs.Class.{aarch32Classes, aarch64Classes, isClass, plainClasses, mcrClasses, mcrrClasses, callClasses, debugClasses, withoutIsv, headOf};
 use super::kinds::Head;
 use super::kinds::Record;
+use super::origin::Origin;
+use super::origin::from_aarch64;
 
 pub fn plain_class(class: u32) -> bool
     ensures { λ r. ⌜ r ≡ among plainClasses class ⌝ }
@@ -26,7 +28,12 @@ pub fn mcrr_class(class: u32) -> bool
 fn call_class(class: u32) -> bool
     ensures { λ r. ⌜ r ≡ among callClasses class ⌝ }
 {
-    (class == 0x11) | (class == 0x12) | (class == 0x38)
+    (class == 0x11)
+        | (class == 0x12)
+        | (class == 0x15)
+        | (class == 0x16)
+        | (class == 0x17)
+        | (class == 0x38)
 }
 
 fn debug_class(class: u32) -> bool
@@ -35,9 +42,8 @@ fn debug_class(class: u32) -> bool
     (class == 0x30) | (class == 0x3A)
 }
 
-// Whether the class is in the build.
-pub fn is_class(class: u32) -> bool
-    ensures { λ r. ⌜ r ≡ isClass class ⌝ }
+fn aarch32_class(class: u32) -> bool
+    ensures { λ r. ⌜ r ≡ among aarch32Classes class ⌝ }
 {
     (class == 0x00)
         | (class == 0x01)
@@ -61,6 +67,37 @@ pub fn is_class(class: u32) -> bool
         | (class == 0x34)
         | (class == 0x38)
         | (class == 0x3A)
+}
+
+fn aarch64_class(class: u32) -> bool
+    ensures { λ r. ⌜ r ≡ among aarch64Classes class ⌝ }
+{
+    (class == 0x00)
+        | (class == 0x01)
+        | (class == 0x07)
+        | (class == 0x0E)
+        | (class == 0x15)
+        | (class == 0x16)
+        | (class == 0x17)
+        | (class == 0x18)
+        | (class == 0x20)
+        | (class == 0x22)
+        | (class == 0x24)
+        | (class == 0x2F)
+        | (class == 0x30)
+        | (class == 0x32)
+        | (class == 0x34)
+}
+
+// Whether the class is in the build.
+pub fn is_class(origin: Origin, class: u32) -> bool
+    ensures { λ r. ⌜ r ≡ isClass origin class ⌝ }
+{
+    if from_aarch64(origin) {
+        aarch64_class(class)
+    } else {
+        aarch32_class(class)
+    }
 }
 
 // The head of a record that isn't a data abort.
@@ -99,5 +136,6 @@ pub fn head(r: Record) -> Head
         Record::Step(x) => without_isv(0x32, true, x.il),
         Record::Watchpoint(x) => without_isv(0x34, true, x.il),
         Record::SError(x) => without_isv(0x2F, true, x.il),
+        Record::System(x) => without_isv(0x18, true, x.il),
     }
 }

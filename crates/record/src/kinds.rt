@@ -64,7 +64,7 @@ pub struct Simd {
     pub cond: u32,
 }
 
-// Classes 0x11, 0x12 and 0x38: an SVC, an HVC or a BKPT.
+// Classes 0x11, 0x12 and 0x38: an SVC, an HVC or a BKPT. Classes 0x15, 0x16 and 0x17: an SVC, an HVC or an SMC of AArch64.
 pub struct Call {
     pub class: u32,
     pub il: bool,
@@ -135,6 +135,18 @@ pub struct SError {
     pub code: u32,
 }
 
+// Class 0x18: a trapped MSR, MRS or System instruction.
+pub struct System {
+    pub il: bool,
+    pub op0: u32,
+    pub op2: u32,
+    pub op1: u32,
+    pub crn: u32,
+    pub rt: u32,
+    pub crm: u32,
+    pub direction: bool,
+}
+
 // A kind of record with several classes holds the class; one with a single class holds none.
 pub enum Record {
     Plain(Plain),
@@ -151,6 +163,7 @@ pub enum Record {
     Step(Step),
     Watchpoint(Watchpoint),
     SError(SError),
+    System(System),
 }
 
 // What is asked of every record before its fields: its class, whether its kind has that class, IL, and a data abort's ISV, which IL hangs on (a software step's is a field

@@ -1,6 +1,7 @@
 // Records of syndrome words: their kinds, what a word's bits hold, and what a record tells beside its fields. Nothing is judged here.
 mod class;
 mod kinds;
+mod origin;
 pub mod split;
 mod told;
 
@@ -27,8 +28,11 @@ pub use kinds::Simd;
 pub use kinds::Smc;
 pub use kinds::Sort;
 pub use kinds::Step;
+pub use kinds::System;
 pub use kinds::Watchpoint;
 pub use kinds::Wfx;
+pub use origin::Origin;
+pub use origin::from_aarch64;
 pub use split::record_at;
 pub use told::addresses;
 pub use told::sort;

@@ -1,6 +1,6 @@
 // A word taken apart by the layout of its class. Nothing is judged here. The kinds without a register are the short form's too.
 ghost use mathlib.Core.Path.{_≡_};
-ghost use Rattle.record.specs.Split.{plainAt, wfxAt, mcrAt, mcrrAt, ldcAt, simdAt, callAt, smcAt, instructionAbortAt, dataAbortAt, debugAt, stepAt, watchpointAt, serrorAt, recordOf, recordAt};
+ghost use Rattle.record.specs.Split.{plainAt, wfxAt, mcrAt, mcrrAt, ldcAt, simdAt, callAt, smcAt, instructionAbortAt, dataAbortAt, debugAt, stepAt, watchpointAt, serrorAt, systemAt, recordOf, recordAt};
 use super::kinds::Call;
 use super::kinds::DataAbort;
 use super::kinds::Debug;
@@ -15,6 +15,7 @@ use super::kinds::SError;
 use super::kinds::Simd;
 use super::kinds::Smc;
 use super::kinds::Step;
+use super::kinds::System;
 use super::kinds::Watchpoint;
 use super::kinds::Wfx;
 use bits::bit;
@@ -193,6 +194,21 @@ fn serror_at(word: u64) -> SError
     }
 }
 
+fn system_at(word: u64) -> System
+    ensures { λ r. ⌜ r ≡ systemAt word ⌝ }
+{
+    System {
+        il: bit(word, 25),
+        op0: field32(word, 21, 20),
+        op2: field32(word, 19, 17),
+        op1: field32(word, 16, 14),
+        crn: field32(word, 13, 10),
+        rt: field32(word, 9, 5),
+        crm: field32(word, 4, 1),
+        direction: bit(word, 0),
+    }
+}
+
 // The record at a word's bits, by the layout of a class. A class with no layout reads as one without fields, which its kind lacks.
 fn record_of(class: u32, word: u64) -> Record
     ensures { λ r. ⌜ r ≡ recordOf class word ⌝ }
@@ -203,8 +219,8 @@ fn record_of(class: u32, word: u64) -> Record
         0x04 | 0x0C => Record::Mcrr(mcrr_at(class, word)),
         0x06 => Record::Ldc(ldc_at(word)),
         0x07 => Record::Simd(simd_at(word)),
-        0x11 | 0x38 => Record::Call(call_at(class, word)),
-        0x12 => Record::Call(call_at(class, word)),
+        0x11 | 0x15 | 0x17 | 0x38 => Record::Call(call_at(class, word)),
+        0x12 | 0x16 => Record::Call(call_at(class, word)),
         0x13 => Record::Smc(smc_at(word)),
         0x20 => Record::InstructionAbort(instruction_abort_at(word)),
         0x24 => Record::DataAbort(data_abort_at(word)),
@@ -212,6 +228,7 @@ fn record_of(class: u32, word: u64) -> Record
         0x32 => Record::Step(step_at(word)),
         0x34 => Record::Watchpoint(watchpoint_at(word)),
         0x2F => Record::SError(serror_at(word)),
+        0x18 => Record::System(system_at(word)),
         _ => Record::Plain(plain_at(class, word)),
     }
 }

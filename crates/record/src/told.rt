@@ -31,6 +31,7 @@ pub fn sort(r: Record) -> Sort
         Record::Step(_) => Sort::Plain,
         Record::Watchpoint(_) => Sort::Addressed,
         Record::SError(x) => Sort::SError(x),
+        Record::System(_) => Sort::Plain,
     }
 }
 

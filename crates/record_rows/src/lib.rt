@@ -1,4 +1,4 @@
-// Records of the long form in rows: a kind, and then its fields in the order of its struct.
+// Origins and records of the long form in rows: 0 for AArch32 and 1 for AArch64; a kind, and then its fields in the order of its struct.
 use record::Call;
 use record::DataAbort;
 use record::Debug;
@@ -6,12 +6,14 @@ use record::InstructionAbort;
 use record::Ldc;
 use record::Mcr;
 use record::Mcrr;
+use record::Origin;
 use record::Plain;
 use record::Record;
 use record::SError;
 use record::Simd;
 use record::Smc;
 use record::Step;
+use record::System;
 use record::Watchpoint;
 use record::Wfx;
 use rows::Reply;
@@ -21,6 +23,15 @@ use rows::long;
 use rows::rest;
 use rows::shaped;
 use rows::word;
+
+// The origin at a place of a row that has been found to have a flag there.
+pub fn origin(row: Row, at: usize) -> Origin {
+    if flag(row, at) {
+        Origin::AArch64
+    } else {
+        Origin::AArch32
+    }
+}
 
 // A row's record, or that it has none.
 pub enum Given {
@@ -342,6 +353,37 @@ fn with_serror(reply: Reply, r: SError) -> Reply {
     rows::with_words(reply, &words)
 }
 
+fn system(row: Row) -> Given {
+    if !shaped(row, b"fwwwwwwf") {
+        return Given::None;
+    }
+    Given::Record(Record::System(System {
+        il: flag(row, 0),
+        op0: word(row, 1),
+        op2: word(row, 2),
+        op1: word(row, 3),
+        crn: word(row, 4),
+        rt: word(row, 5),
+        crm: word(row, 6),
+        direction: flag(row, 7),
+    }))
+}
+
+fn with_system(reply: Reply, r: System) -> Reply {
+    let words = [
+        14,
+        r.il as u32,
+        r.op0,
+        r.op2,
+        r.op1,
+        r.crn,
+        r.rt,
+        r.crm,
+        r.direction as u32,
+    ];
+    rows::with_words(reply, &words)
+}
+
 // The record that a row is.
 pub fn from_row(row: Row) -> Given {
     let fields = rest(row, 1);
@@ -360,6 +402,7 @@ pub fn from_row(row: Row) -> Given {
         11 => step(fields),
         12 => watchpoint(fields),
         13 => serror(fields),
+        14 => system(fields),
         _ => Given::None,
     }
 }
@@ -381,5 +424,6 @@ pub fn with_record(reply: Reply, r: Record) -> Reply {
         Record::Step(fields) => with_step(reply, fields),
         Record::Watchpoint(fields) => with_watchpoint(reply, fields),
         Record::SError(fields) => with_serror(reply, fields),
+        Record::System(fields) => with_system(reply, fields),
     }
 }

@@ -7,8 +7,10 @@ use lib.Dec.{eqb}
 use Rattle.bits.specs.Among.{among}
 use Rattle.iss.specs.Rule.{implies}
 use Rattle.iss.proofs.Lengths.{needed-ignores-isv}
+use Rattle.record.specs.Origin.{fromAArch64}
+use Rattle.record.specs.declared.origin.Origin.{Origin}
 use Rattle.rule.specs.Il.{ilAlways, ilRule}
 
 -- the IL rule asks for ISV at class 0x24 alone
-pub ignores-isv : (c : ℕ) → eqb c 0x24 ≡ false → (a b l : Bool) → ilRule c a l ≡ ilRule c b l
-ignores-isv c other a b l = ap (λ (t : Bool). implies (t || among ilAlways c) l) (needed-ignores-isv c other a b)
+pub ignores-isv : (o : Origin) (c : ℕ) → eqb c 0x24 ≡ false → (a b l : Bool) → ilRule o c a l ≡ ilRule o c b l
+ignores-isv o c other a b l = ap (λ (t : Bool). implies (fromAArch64 o || t || among ilAlways c) l) (needed-ignores-isv c other a b)

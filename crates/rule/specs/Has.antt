@@ -1,28 +1,33 @@
 -- An edition has a record (01, 'Editions') when the layout lines, the IL and abort rules and the fault codes allow its class and fields there, and each
--- field fits its place.
+-- field fits its place. From each origin the editions have other records (02, C-23).
 use Prim.Native.Nat.{ℕ}
 use mathlib.Core.Bool.{Bool, _&&_}
 use Rattle.bits.specs.Layout.{fitting}
 use Rattle.edition.specs.Feature.{isEdition}
 use Rattle.edition.specs.Mask.{maskOf}
-use Rattle.record.specs.Class.{headOf}
+use Rattle.record.specs.Class.{isClass, headOf}
 use Rattle.layout.specs.Fields.{fieldsOf}
+use Rattle.record.specs.declared.origin.Origin.{Origin}
 use Rattle.record.specs.declared.kinds.Record.{Record}
 use Rattle.rule.specs.Il.{ilRule}
 use Rattle.rule.specs.Rule.{layoutRule}
 use Rattle.rule.specs.Code.{editionRule}
 
+-- the class of a record: its kind has it, and so has the origin
+abbrev pub recordClass : Origin → Record → Bool
+recordClass o r = headOf r .own && isClass o (headOf r .class)
+
 -- IL of a record
-abbrev pub recordIl : Record → Bool
-recordIl r = ilRule (headOf r .class) (headOf r .isv) (headOf r .il)
+abbrev pub recordIl : Origin → Record → Bool
+recordIl o r = ilRule o (headOf r .class) (headOf r .isv) (headOf r .il)
 
 -- what every edition asks alike
-unfoldable pub lawful : Record → Bool
-lawful r = headOf r .own && recordIl r && (fitting (fieldsOf r) && layoutRule r)
+unfoldable pub lawful : Origin → Record → Bool
+lawful o r = recordClass o r && recordIl o r && (fitting (fieldsOf r) && layoutRule o r)
 
-unfoldable pub has : ℕ → Record → Bool
-has e r = isEdition e && lawful r && editionRule e r
+unfoldable pub has : Origin → ℕ → Record → Bool
+has o e r = isEdition e && lawful o r && editionRule e r
 
 -- the mask of the editions that have a record
-abbrev pub editionsOf : Record → ℕ
-editionsOf r = maskOf (λ e. has e r)
+abbrev pub editionsOf : Origin → Record → ℕ
+editionsOf o r = maskOf (λ e. has o e r)

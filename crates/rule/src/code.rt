@@ -9,6 +9,7 @@ use edition::ALL;
 use edition::HAFDBS;
 use edition::LPA2;
 use edition::RAS;
+use record::Origin;
 use record::Record;
 use record::Sort;
 
@@ -226,12 +227,16 @@ fn edition_rule(r: Record) -> u32
     }
 }
 
-// The editions that have a record.
-pub fn editions(r: Record) -> u32
-    ensures { λ m. ⌜ m ≡ editionsOf r ⌝ }
+// The editions that have a record, in a trap from this origin.
+pub fn editions(origin: Origin, r: Record) -> u32
+    ensures { λ m. ⌜ m ≡ editionsOf origin r ⌝ }
 {
     let h = record::head(r);
-    if h.own & il_rule(h.class, h.isv, h.il) & rules::layout_rule(r) {
+    if h.own
+        & record::is_class(origin, h.class)
+        & il_rule(origin, h.class, h.isv, h.il)
+        & rules::layout_rule(origin, r)
+    {
         edition_rule(r)
     } else {
         0

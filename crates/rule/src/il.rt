@@ -1,7 +1,8 @@
-// Where IL must be 1: the one place that goes by the class and ISV.
+// Where IL must be 1: the one place that goes by the origin, the class and ISV.
 ghost use mathlib.Core.Path.{_≡_};
 ghost use Rattle.bits.specs.Among.{among};
 ghost use Rattle.rule.specs.Il.{ilAlways, ilRule};
+use record::Origin;
 
 // A class of the long form alone that has no 16-bit instruction: a PC alignment fault, an SError interrupt, or a debug exception other than BKPT.
 fn il_always(class: u32) -> bool
@@ -15,9 +16,9 @@ fn il_always(class: u32) -> bool
         | (class == 0x3A)
 }
 
-// Whether IL is 1 where it must be.
-pub fn il_rule(class: u32, isv: bool, il: bool) -> bool
-    ensures { λ yes. ⌜ yes ≡ ilRule class isv il ⌝ }
+// Whether IL is 1 where it must be. AArch64 has no 16-bit instruction.
+pub fn il_rule(origin: Origin, class: u32, isv: bool, il: bool) -> bool
+    ensures { λ yes. ⌜ yes ≡ ilRule origin class isv il ⌝ }
 {
-    !(iss::il_needed(class, isv) | il_always(class)) | il
+    !(record::from_aarch64(origin) | iss::il_needed(class, isv) | il_always(class)) | il
 }

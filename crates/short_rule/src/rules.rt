@@ -5,6 +5,7 @@ ghost use Rattle.bits.specs.Layout.{fitting};
 ghost use Rattle.iss.specs.Rule.{conditionRule, directionRule, addressingRule, abortRule};
 ghost use Rattle.short_layout.specs.Fields.{mcrFields, mcrrFields, ldcFields, simdFields, instructionAbortFields, dataAbortFields, fieldsOf};
 ghost use Rattle.short_rule.specs.Rule.{coprocRule, asynchronous, noSyndromeRule, validSyndromeRule, syndromeRule, asynchronousRule, dataRule, layoutRule};
+use record::Origin;
 use rule::rules;
 use short_record::DataAbort;
 use short_record::InstructionAbort;
@@ -122,13 +123,13 @@ fn data_abort(r: DataAbort) -> bool
     (r.sas < 4) & (r.srt < 16) & (r.aet < 4) & (r.code < 64) & data_rule(r)
 }
 
-// Whether a record's fields fit and agree with each other.
+// Whether a record's fields fit and agree with each other. The guest of a hypervisor in AArch32 is in AArch32 too.
 pub fn layout_rule(r: Record) -> bool
     ensures { λ yes. ⌜ yes ≡ (fitting (fieldsOf r) && layoutRule r) ⌝ }
 {
     match r {
         Record::Plain(x) => rules::plain(x),
-        Record::Wfx(x) => rules::wfx(x),
+        Record::Wfx(x) => rules::wfx(Origin::AArch32, x),
         Record::Mcr(x) => mcr(x),
         Record::Mcrr(x) => mcrr(x),
         Record::Ldc(x) => ldc(x),

@@ -8,6 +8,7 @@ use Prim.Native.Nat.{ℕ}
 use Rattle.form.proofs.Forms as Forms
 use Rattle.form.proofs.Demand2 as Forms2
 use Rattle.layout.specs.Fields.{recordWord}
+use Rattle.record.specs.declared.origin.Origin.{Origin}
 use Rattle.record.specs.declared.kinds.Esr.{Esr}
 use Rattle.record.specs.declared.kinds.Record.{Record}
 use Rattle.rule.specs.Has.{has}
@@ -18,30 +19,31 @@ use Rattle.syndrome.specs.declared.answer.Read.{Read}
 use Rattle.syndrome.specs.declared.answer.Written.{Written}
 use Rattle.syndrome.proofs.Instance.{sound, read-shows, written-shows}
 
--- READING: the answer is a record exactly when the edition has it and it makes the word
-pub read-exactly : (e : ℕ) (esr : Esr) (r : Record) → (readOf e esr ≡ Read.Taken r) ↔ ((has e r ≡ true) × (recordWord r ≡ esr .0))
-unfolding readOf
-read-exactly e esr r = Forms2.read-exactly longForm sound read-shows written-shows e (esr .0) r
+module _ (o : Origin) where
+  -- READING: the answer is a record exactly when the edition has it and it makes the word
+  pub read-exactly : (e : ℕ) (esr : Esr) (r : Record) → (readOf o e esr ≡ Read.Taken r) ↔ ((has o e r ≡ true) × (recordWord r ≡ esr .0))
+  unfolding readOf
+  read-exactly e esr r = Forms2.read-exactly (longForm o) (sound o) read-shows written-shows e (esr .0) r
 
--- WRITING: the answer is a word exactly when the edition has the record and the record makes the word
-pub write-exactly : (e w : ℕ) (r : Record) → (writeOf e r ≡ Written.Word (record { 0 = w })) ↔ ((has e r ≡ true) × (recordWord r ≡ w))
-unfolding writeOf
-write-exactly e w r = Forms2.write-exactly longForm sound read-shows written-shows e w r
+  -- WRITING: the answer is a word exactly when the edition has the record and the record makes the word
+  pub write-exactly : (e w : ℕ) (r : Record) → (writeOf o e r ≡ Written.Word (record { 0 = w })) ↔ ((has o e r ≡ true) × (recordWord r ≡ w))
+  unfolding writeOf
+  write-exactly e w r = Forms2.write-exactly (longForm o) (sound o) read-shows written-shows e w r
 
--- DEMAND 2: a word is read as a record exactly when that record is written to the same word
-pub read-as-written : (e : ℕ) (esr : Esr) (r : Record) → (readOf e esr ≡ Read.Taken r) ↔ (writeOf e r ≡ Written.Word esr)
-unfolding readOf writeOf
-read-as-written e esr r = Forms2.read-as-written longForm sound read-shows written-shows e (esr .0) r
+  -- DEMAND 2: a word is read as a record exactly when that record is written to the same word
+  pub read-as-written : (e : ℕ) (esr : Esr) (r : Record) → (readOf o e esr ≡ Read.Taken r) ↔ (writeOf o e r ≡ Written.Word esr)
+  unfolding readOf writeOf
+  read-as-written e esr r = Forms2.read-as-written (longForm o) (sound o) read-shows written-shows e (esr .0) r
 
--- a word is taken exactly when some record writes to it
-pub taken-exactly : (e : ℕ) (esr : Esr) → ((r : Record) × (readOf e esr ≡ Read.Taken r)) ↔ ((r : Record) × (writeOf e r ≡ Written.Word esr))
-unfolding readOf writeOf
-taken-exactly e esr = Forms2.taken-exactly longForm sound read-shows written-shows e (esr .0)
+  -- a word is taken exactly when some record writes to it
+  pub taken-exactly : (e : ℕ) (esr : Esr) → ((r : Record) × (readOf o e esr ≡ Read.Taken r)) ↔ ((r : Record) × (writeOf o e r ≡ Written.Word esr))
+  unfolding readOf writeOf
+  taken-exactly e esr = Forms2.taken-exactly (longForm o) (sound o) read-shows written-shows e (esr .0)
 
--- an edition has a word exactly when it has a record that makes the word
-pub has-word-exactly : (e w : ℕ) → (hasWord e w ≡ true) ↔ ((r : Record) × (has e r ≡ true) × (recordWord r ≡ w))
-has-word-exactly = Forms.has-word-exactly longForm sound
+  -- an edition has a word exactly when it has a record that makes the word
+  pub has-word-exactly : (e w : ℕ) → (hasWord o e w ≡ true) ↔ ((r : Record) × (has o e r ≡ true) × (recordWord r ≡ w))
+  has-word-exactly = Forms.has-word-exactly (longForm o) (sound o)
 
--- two records that editions have and that make one word are one record
-pub same-record : (a b : ℕ) (r s : Record) → has a r ≡ true → has b s ≡ true → recordWord r ≡ recordWord s → r ≡ s
-same-record = Forms.same-record longForm sound
+  -- two records that editions have and that make one word are one record
+  pub same-record : (a b : ℕ) (r s : Record) → has o a r ≡ true → has o b s ≡ true → recordWord r ≡ recordWord s → r ≡ s
+  same-record = Forms.same-record (longForm o) (sound o)

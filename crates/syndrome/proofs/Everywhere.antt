@@ -11,6 +11,7 @@ use Rattle.edition.specs.declared.Refusal.the-variants.{ShortInstruction, NoEdi
 use Rattle.edition.proofs.Masks.{mask-everywhere}
 use Rattle.form.proofs.Forms.{word-record}
 use Rattle.record.specs.Split.{recordAt}
+use Rattle.record.specs.declared.origin.Origin.{Origin}
 use Rattle.record.specs.declared.kinds.Esr.{Esr}
 use Rattle.syndrome.specs.Inner.{makes}
 use Rattle.syndrome.specs.Tests.{upperClear, classKnown, wordIl}
@@ -21,21 +22,21 @@ use Rattle.syndrome.proofs.Instance.{sound}
 use Rattle.syndrome.proofs.Steps.{readVerdict, read-short, read-judged}
 use Rattle.syndrome.proofs.Demand2.{read-exactly}
 
-module _ (esr : Esr) (e : ℕ) (is : e < editions) where
+module _ (o : Origin) (esr : Esr) (e : ℕ) (is : e < editions) where
   -- a word that all editions have is taken in each
-  pub taken-everywhere : maskOf (λ x. hasWord x (esr .0)) ≡ maskOf (λ x. true) → readOf e esr ≡ Read.Taken (recordAt (esr .0))
+  pub taken-everywhere : maskOf (λ x. hasWord o x (esr .0)) ≡ maskOf (λ x. true) → readOf o e esr ≡ Read.Taken (recordAt (esr .0))
   unfolding maskOf
   taken-everywhere all =
-      read-exactly e esr (recordAt (esr .0)) .1
-      (word-record longForm sound e (esr .0) (mask-everywhere editions (λ x. hasWord x (esr .0)) all e is))
+      read-exactly o e esr (recordAt (esr .0)) .1
+      (word-record (longForm o) (sound o) e (esr .0) (mask-everywhere editions (λ x. hasWord o x (esr .0)) all e is))
 
-  module _ (u : upperClear (esr .0) ≡ true) (c : classKnown (esr .0) ≡ true) where
+  module _ (u : upperClear (esr .0) ≡ true) (c : classKnown o (esr .0) ≡ true) where
     -- IL is refused alike
-    pub short-everywhere : wordIl (esr .0) ≡ false → readOf e esr ≡ Read.Refused ShortInstruction
-    short-everywhere = read-short e esr (lt-ltb e editions is) u c
+    pub short-everywhere : wordIl o (esr .0) ≡ false → readOf o e esr ≡ Read.Refused ShortInstruction
+    short-everywhere = read-short o e esr (lt-ltb e editions is) u c
 
     -- and so is what no edition has
-    pub none-everywhere : wordIl (esr .0) ≡ true → maskOf (λ x. makes x (recordAt (esr .0)) (esr .0)) ≡ 0 → readOf e esr ≡ Read.Refused NoEdition
+    pub none-everywhere : wordIl o (esr .0) ≡ true → maskOf (λ x. makes o x (recordAt (esr .0)) (esr .0)) ≡ 0 → readOf o e esr ≡ Read.Refused NoEdition
     unfolding judgeOf
     none-everywhere l none =
-        read-judged e esr (lt-ltb e editions is) u c l ∙ ap (λ (m : ℕ). readVerdict (recordAt (esr .0)) (judgeOf e m)) none
+        read-judged o e esr (lt-ltb e editions is) u c l ∙ ap (λ (m : ℕ). readVerdict (recordAt (esr .0)) (judgeOf e m)) none

@@ -5,6 +5,7 @@ use Prim.Native.Nat.{ℕ}
 use Rattle.edition.specs.Mask.{maskOf}
 use Rattle.form.specs.Answer.{given, refused}
 use Rattle.form.proofs.Promises as Forms
+use Rattle.record.specs.declared.origin.Origin.{Origin}
 use Rattle.record.specs.declared.kinds.Esr.{Esr}
 use Rattle.record.specs.declared.kinds.Record.{Record}
 use Rattle.syndrome.specs.Form.{longForm}
@@ -17,19 +18,20 @@ use Rattle.syndrome.specs.declared.answer.Written.{Written}
 use Rattle.syndrome.specs.declared.answer.Carried.{Carried}
 use Rattle.syndrome.proofs.Instance.{sound, read-shows, written-shows}
 
-pub reads : (e : ℕ) (esr : Esr) {a : Read} → a ≡ readOf e esr → Reading e esr a
-unfolding readOf maskOf
-reads e esr same = Forms.reading longForm sound read-shows e (esr .0) same
+module _ (o : Origin) where
+  pub reads : (e : ℕ) (esr : Esr) {a : Read} → a ≡ readOf o e esr → Reading o e esr a
+  unfolding readOf maskOf
+  reads e esr same = Forms.reading (longForm o) (sound o) read-shows e (esr .0) same
 
-pub writes : (e : ℕ) (r : Record) {a : Written} → a ≡ writeOf e r → Writing e r a
-unfolding writeOf maskOf
-writes e r same = Forms.writing longForm sound written-shows e r same
+  pub writes : (e : ℕ) (r : Record) {a : Written} → a ≡ writeOf o e r → Writing o e r a
+  unfolding writeOf maskOf
+  writes e r same = Forms.writing (longForm o) (sound o) written-shows e r same
 
-pub rewrites : (e : ℕ) (esr : Esr) {a : Written} → a ≡ rewrittenOf e esr → Rewriting e esr a
-unfolding rewrittenOf maskOf
-rewrites e esr same = Forms.rewriting longForm sound written-shows e (esr .0) same
+  pub rewrites : (e : ℕ) (esr : Esr) {a : Written} → a ≡ rewrittenOf o e esr → Rewriting o e esr a
+  unfolding rewrittenOf maskOf
+  rewrites e esr same = Forms.rewriting (longForm o) (sound o) written-shows e (esr .0) same
 
-pub carries : (writer reader : ℕ) (r : Record) {c : Carried} → c ≡ carriedOf writer reader r → Carrying writer reader r c
-unfolding carriedOf maskOf
-carries writer reader r same =
-    Forms.carrying longForm sound writer reader r Carried.Unwritten asCarried carriedMeans (λ refusal. refl) (λ a. read-shows .same a) same
+  pub carries : (writer reader : ℕ) (r : Record) {c : Carried} → c ≡ carriedOf o writer reader r → Carrying o writer reader r c
+  unfolding carriedOf maskOf
+  carries writer reader r same =
+      Forms.carrying (longForm o) (sound o) writer reader r Carried.Unwritten asCarried carriedMeans (λ refusal. refl) (λ a. read-shows .same a) same

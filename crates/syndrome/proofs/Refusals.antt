@@ -14,6 +14,7 @@ use Rattle.edition.specs.declared.Refusal.the-variants.{OtherEditions}
 use Rattle.edition.proofs.Masks.{mask-bit, mask-bit-above}
 use Rattle.form.proofs.Calls.{OthersHave}
 use Rattle.form.proofs.Promises as Forms
+use Rattle.record.specs.declared.origin.Origin.{Origin}
 use Rattle.record.specs.declared.kinds.Esr.{Esr}
 use Rattle.record.specs.declared.kinds.Record.{Record}
 use Rattle.rule.specs.Has.{has, editionsOf}
@@ -26,43 +27,43 @@ use Rattle.syndrome.specs.declared.answer.Written.{Written}
 use Rattle.syndrome.proofs.Instance.{sound, read-shows, written-shows}
 use Rattle.syndrome.proofs.Promises.{reads, writes}
 
-module _ (e : ℕ) (esr : Esr) where
+module _ (o : Origin) (e : ℕ) (esr : Esr) where
   -- READING, 0 to 6, each exactly: at a number the type on the right is the row of tests up to that number's
-  pub read-refused-exactly : (k : ℕ) → (readNumbers .number (readOf e esr) ≡ k) ↔ FirstFails k (readList e esr)
-  read-refused-exactly = Forms.first-exactly (readList e esr) tt (reads e esr refl)
+  pub read-refused-exactly : (k : ℕ) → (readNumbers .number (readOf o e esr) ≡ k) ↔ FirstFails k (readList o e esr)
+  read-refused-exactly = Forms.first-exactly (readList o e esr) tt (reads o e esr refl)
 
   -- reading's numbers are 0 to 6
-  pub read-numbers : readNumbers .number (readOf e esr) ≤ 6
+  pub read-numbers : readNumbers .number (readOf o e esr) ≤ 6
   read-numbers =
-      Forms.number-is (λ k. k ≤ 6) (readList e esr) (reads e esr refl) (lit≤ tt, (lit≤ tt, (lit≤ tt, (lit≤ tt, (lit≤ tt, (lit≤ tt, tt)))))) (lit≤ tt)
+      Forms.number-is (λ k. k ≤ 6) (readList o e esr) (reads o e esr refl) (lit≤ tt, (lit≤ tt, (lit≤ tt, (lit≤ tt, (lit≤ tt, (lit≤ tt, tt)))))) (lit≤ tt)
 
   pub read-six-exactly : (mask count : ℕ)
-      → (readOf e esr ≡ Read.Refused (OtherEditions mask count))
-      ↔ (OthersHave editions (λ x. hasWord x (esr .0)) e × (mask ≡ maskOf (λ x. hasWord x (esr .0))) × (count ≡ countBelow editions (λ x. hasWord x (esr .0))))
+      → (readOf o e esr ≡ Read.Refused (OtherEditions mask count))
+      ↔ (OthersHave editions (λ x. hasWord o x (esr .0)) e × (mask ≡ maskOf (λ x. hasWord o x (esr .0))) × (count ≡ countBelow editions (λ x. hasWord o x (esr .0))))
   unfolding readOf maskOf
-  read-six-exactly = Forms.read-six-exactly longForm sound read-shows e (esr .0)
+  read-six-exactly = Forms.read-six-exactly (longForm o) (sound o) read-shows e (esr .0)
 
 -- a number of writing: 0, 1, 4, 5 or 6
 abbrev pub OneOfWriting : ℕ → Type 0
 OneOfWriting k = (k ≡ 0) ⊎ ((k ≡ 1) ⊎ ((k ≡ 4) ⊎ ((k ≡ 5) ⊎ (k ≡ 6))))
 
-module _ (e : ℕ) (r : Record) where
+module _ (o : Origin) (e : ℕ) (r : Record) where
   -- WRITING, each number exactly: a class that the kind lacks and a record that no edition has are both 5
-  pub write-refused-exactly : (k : ℕ) → (writtenNumbers .number (writeOf e r) ≡ k) ↔ FailsWith k (writeList e r)
-  write-refused-exactly = Forms.fails-exactly (writeList e r) (writes e r refl)
+  pub write-refused-exactly : (k : ℕ) → (writtenNumbers .number (writeOf o e r) ≡ k) ↔ FailsWith k (writeList o e r)
+  write-refused-exactly = Forms.fails-exactly (writeList o e r) (writes o e r refl)
 
   -- writing's numbers are 0, 1, 4, 5 and 6
-  pub write-numbers : OneOfWriting (writtenNumbers .number (writeOf e r))
+  pub write-numbers : OneOfWriting (writtenNumbers .number (writeOf o e r))
   write-numbers =
-      Forms.number-is OneOfWriting (writeList e r) (writes e r refl)
+      Forms.number-is OneOfWriting (writeList o e r) (writes o e r refl)
       (inr (inl refl), (inr (inr (inr (inl refl))), (inr (inr (inl refl)), (inr (inr (inr (inl refl))), (inr (inr (inr (inr refl))), tt)))))
       (inl refl)
 
   pub write-six-exactly : (mask count : ℕ)
-      → (writeOf e r ≡ Written.Refused (OtherEditions mask count))
-      ↔ (OthersHave editions (λ x. has x r) e × (mask ≡ editionsOf r) × (count ≡ countBelow editions (λ x. has x r)))
+      → (writeOf o e r ≡ Written.Refused (OtherEditions mask count))
+      ↔ (OthersHave editions (λ x. has o x r) e × (mask ≡ editionsOf o r) × (count ≡ countBelow editions (λ x. has o x r)))
   unfolding writeOf maskOf
-  write-six-exactly = Forms.write-six-exactly longForm sound written-shows e r
+  write-six-exactly = Forms.write-six-exactly (longForm o) (sound o) written-shows e r
 
 -- the mask has bit x exactly when edition x has the word, or the record, and no bit above
 module _ (test : ℕ → Bool) (x : ℕ) where

@@ -17,13 +17,13 @@ use Rattle.form.specs.Call.{callOf}
 use Rattle.form.specs.Form as Form
 use Rattle.form.proofs.Shows.{again-given, again-refused, carried-given, carried-refused}
 use Rattle.form.proofs.Verdicts.{made-mask, verdictOf, call-verdict}
-use Rattle.record.specs.Class.{headOf}
 use Rattle.layout.specs.Fields.{fieldsOf, recordWord}
 use Rattle.record.specs.Split.{recordAt}
+use Rattle.record.specs.declared.origin.Origin.{Origin}
 use Rattle.record.specs.declared.kinds.Esr.{Esr}
 use Rattle.record.specs.declared.kinds.Record.{Record}
 use Rattle.layout.proofs.RoundTrip.{joined-record}
-use Rattle.rule.specs.Has.{has, recordIl, editionsOf}
+use Rattle.rule.specs.Has.{recordClass, recordIl, has, editionsOf}
 use Rattle.rule.proofs.Having.{has-fits}
 use Rattle.syndrome.specs.Inner.{makes}
 use Rattle.syndrome.specs.Tests.{upperClear, classKnown, wordIl, readTests, writeTests}
@@ -44,77 +44,78 @@ readVerdict r v = asRead (verdictOf r v)
 abbrev pub writeVerdict : ℕ → Verdict → Written
 writeVerdict w v = asWritten (verdictOf w v)
 
-module _ (e : ℕ) (esr : Esr) where
-  pub read-unknown : isEdition e ≡ false → readOf e esr ≡ Read.Refused UnknownEdition
-  unfolding readOf callOf
-  read-unknown k = simp k
-
-  module _ (k : isEdition e ≡ true) where
-    pub read-upper : upperClear (esr .0) ≡ false → readOf e esr ≡ Read.Refused UpperHalf
+module _ (o : Origin) where
+  module _ (e : ℕ) (esr : Esr) where
+    pub read-unknown : isEdition e ≡ false → readOf o e esr ≡ Read.Refused UnknownEdition
     unfolding readOf callOf
-    read-upper u = simp (k, u)
+    read-unknown k = simp k
 
-    module _ (u : upperClear (esr .0) ≡ true) where
-      pub read-class : classKnown (esr .0) ≡ false → readOf e esr ≡ Read.Refused UnknownClass
+    module _ (k : isEdition e ≡ true) where
+      pub read-upper : upperClear (esr .0) ≡ false → readOf o e esr ≡ Read.Refused UpperHalf
       unfolding readOf callOf
-      read-class c = simp (k, u, c)
+      read-upper u = simp (k, u)
 
-      module _ (c : classKnown (esr .0) ≡ true) where
-        pub read-short : wordIl (esr .0) ≡ false → readOf e esr ≡ Read.Refused ShortInstruction
+      module _ (u : upperClear (esr .0) ≡ true) where
+        pub read-class : classKnown o (esr .0) ≡ false → readOf o e esr ≡ Read.Refused UnknownClass
         unfolding readOf callOf
-        read-short l = simp (k, u, c, l)
+        read-class c = simp (k, u, c)
 
-        pub read-judged : wordIl (esr .0) ≡ true
-            → readOf e esr ≡ readVerdict (recordAt (esr .0)) (judgeOf e (maskOf (λ x. makes x (recordAt (esr .0)) (esr .0))))
-        unfolding readOf Form.hasWord maskOf
-        read-judged l =
-            ap asRead (call-verdict editions (λ x. hasWord x (esr .0)) (readTests (esr .0)) e (recordAt (esr .0)) k (u, (c, (l, tt))))
+        module _ (c : classKnown o (esr .0) ≡ true) where
+          pub read-short : wordIl o (esr .0) ≡ false → readOf o e esr ≡ Read.Refused ShortInstruction
+          unfolding readOf callOf
+          read-short l = simp (k, u, c, l)
 
-module _ (e : ℕ) (r : Record) where
-  pub write-unknown : isEdition e ≡ false → writeOf e r ≡ Written.Refused UnknownEdition
-  unfolding writeOf callOf
-  write-unknown k = simp k
+          pub read-judged : wordIl o (esr .0) ≡ true
+              → readOf o e esr ≡ readVerdict (recordAt (esr .0)) (judgeOf e (maskOf (λ x. makes o x (recordAt (esr .0)) (esr .0))))
+          unfolding readOf Form.hasWord maskOf
+          read-judged l =
+              ap asRead (call-verdict editions (λ x. hasWord o x (esr .0)) (readTests o (esr .0)) e (recordAt (esr .0)) k (u, (c, (l, tt))))
 
-  module _ (k : isEdition e ≡ true) where
-    pub write-class : headOf r .own ≡ false → writeOf e r ≡ Written.Refused NoEdition
+  module _ (e : ℕ) (r : Record) where
+    pub write-unknown : isEdition e ≡ false → writeOf o e r ≡ Written.Refused UnknownEdition
     unfolding writeOf callOf
-    write-class o = simp (k, o)
+    write-unknown k = simp k
 
-    module _ (o : headOf r .own ≡ true) where
-      pub write-short : recordIl r ≡ false → writeOf e r ≡ Written.Refused ShortInstruction
+    module _ (k : isEdition e ≡ true) where
+      pub write-class : recordClass o r ≡ false → writeOf o e r ≡ Written.Refused NoEdition
       unfolding writeOf callOf
-      write-short l = simp (k, o, l)
+      write-class w = simp (k, w)
 
-      pub write-judged : recordIl r ≡ true → writeOf e r ≡ writeVerdict (recordWord r) (judgeOf e (editionsOf r))
-      unfolding writeOf maskOf
-      write-judged l =
-          ap asWritten (call-verdict editions (λ x. has x r) (writeTests r) e (recordWord r) k (o, (l, tt)))
+      module _ (w : recordClass o r ≡ true) where
+        pub write-short : recordIl o r ≡ false → writeOf o e r ≡ Written.Refused ShortInstruction
+        unfolding writeOf callOf
+        write-short l = simp (k, w, l)
 
--- the editions that have a record which makes the word, by the word that is put together
-pub makes-mask : (r : Record) (w : ℕ) → cond (eqb (joinedFrom 0 (fieldsOf r)) w) (editionsOf r) 0 ≡ maskOf (λ e. makes e r w)
-unfolding maskOf
-makes-mask r w = made-mask editions (λ e. has e r) (joinedFrom 0 (fieldsOf r)) (recordWord r) w (λ e h. joined-record r (has-fits e r h))
+        pub write-judged : recordIl o r ≡ true → writeOf o e r ≡ writeVerdict (recordWord r) (judgeOf e (editionsOf o r))
+        unfolding writeOf maskOf
+        write-judged l =
+            ap asWritten (call-verdict editions (λ x. has o x r) (writeTests o r) e (recordWord r) k (w, (l, tt)))
 
--- a record that an edition takes is put together into its word
-pub joined-taken : (e : ℕ) (r : Record) → isEdition e ≡ true → judgeOf e (editionsOf r) ≡ Verdict.Taken → joinedFrom 0 (fieldsOf r) ≡ recordWord r
-unfolding maskOf
-joined-taken e r k t = joined-record r (has-fits e r (judge-taken editions (λ x. has x r) e (ltb-true e editions k) t))
+  -- the editions that have a record which makes the word, by the word that is put together
+  pub makes-mask : (r : Record) (w : ℕ) → cond (eqb (joinedFrom 0 (fieldsOf r)) w) (editionsOf o r) 0 ≡ maskOf (λ e. makes o e r w)
+  unfolding maskOf
+  makes-mask r w = made-mask editions (λ e. has o e r) (joinedFrom 0 (fieldsOf r)) (recordWord r) w (λ e h. joined-record r (has-fits o e r h))
 
--- a word that is rewritten, by what reading answered, and a record that is carried, by what writing did
-module _ (e : ℕ) (esr : Esr) where
-  pub rewritten-taken : (r : Record) → readOf e esr ≡ Read.Taken r → rewrittenOf e esr ≡ Written.Word esr
-  unfolding readOf rewrittenOf
-  rewritten-taken = again-given read-shows asWritten (esr .0) (Form.readAs longForm e (esr .0))
+  -- a record that an edition takes is put together into its word
+  pub joined-taken : (e : ℕ) (r : Record) → isEdition e ≡ true → judgeOf e (editionsOf o r) ≡ Verdict.Taken → joinedFrom 0 (fieldsOf r) ≡ recordWord r
+  unfolding maskOf
+  joined-taken e r k t = joined-record r (has-fits o e r (judge-taken editions (λ x. has o x r) e (ltb-true e editions k) t))
 
-  pub rewritten-refused : (refusal : Refusal) → readOf e esr ≡ Read.Refused refusal → rewrittenOf e esr ≡ Written.Refused refusal
-  unfolding readOf rewrittenOf
-  rewritten-refused = again-refused read-shows asWritten (esr .0) (Form.readAs longForm e (esr .0))
+  -- a word that is rewritten, by what reading answered, and a record that is carried, by what writing did
+  module _ (e : ℕ) (esr : Esr) where
+    pub rewritten-taken : (r : Record) → readOf o e esr ≡ Read.Taken r → rewrittenOf o e esr ≡ Written.Word esr
+    unfolding readOf rewrittenOf
+    rewritten-taken = again-given read-shows asWritten (esr .0) (Form.readAs (longForm o) e (esr .0))
 
-module _ (writer reader : ℕ) (r : Record) where
-  pub carried-word : (esr : Esr) → writeOf writer r ≡ Written.Word esr → carriedOf writer reader r ≡ asCarried (Form.readBack longForm reader r)
-  unfolding writeOf carriedOf
-  carried-word esr = carried-given written-shows Carried.Unwritten asCarried longForm reader r (Form.writeAs longForm writer r) (esr .0)
+    pub rewritten-refused : (refusal : Refusal) → readOf o e esr ≡ Read.Refused refusal → rewrittenOf o e esr ≡ Written.Refused refusal
+    unfolding readOf rewrittenOf
+    rewritten-refused = again-refused read-shows asWritten (esr .0) (Form.readAs (longForm o) e (esr .0))
 
-  pub carried-unwritten : (refusal : Refusal) → writeOf writer r ≡ Written.Refused refusal → carriedOf writer reader r ≡ Carried.Unwritten refusal
-  unfolding writeOf carriedOf
-  carried-unwritten = carried-refused written-shows Carried.Unwritten asCarried longForm reader r (Form.writeAs longForm writer r)
+  module _ (writer reader : ℕ) (r : Record) where
+    pub carried-word : (esr : Esr) → writeOf o writer r ≡ Written.Word esr → carriedOf o writer reader r ≡ asCarried (Form.readBack (longForm o) reader r)
+    unfolding writeOf carriedOf
+    carried-word esr = carried-given written-shows Carried.Unwritten asCarried (longForm o) reader r (Form.writeAs (longForm o) writer r) (esr .0)
+
+    pub carried-unwritten : (refusal : Refusal) → writeOf o writer r ≡ Written.Refused refusal → carriedOf o writer reader r ≡ Carried.Unwritten refusal
+    unfolding writeOf carriedOf
+    carried-unwritten = carried-refused written-shows Carried.Unwritten asCarried (longForm o) reader r (Form.writeAs (longForm o) writer r)

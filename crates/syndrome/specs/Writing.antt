@@ -1,4 +1,5 @@
--- Writing a record (01, 'Numbers a call may answer'): 1, then 5 for a class that its kind lacks, then 4, then 5 or 6, or the word.
+-- Writing a record (01, 'Numbers a call may answer'): 1, then 5 for a class that its kind or the origin lacks (02, C-23), then 4, then 5 or
+-- 6, or the word.
 use Prim.Native.Nat.{ℕ}
 use mathlib.Core.List.{List, [], _∷_}
 use Rattle.bits.specs.Decide.{Test, needs, decide}
@@ -7,27 +8,28 @@ use Rattle.edition.specs.Mask.{countBelow}
 use Rattle.form.specs.Call.{someHas}
 use Rattle.form.specs.Form as Form
 use Rattle.form.specs.Promise.{Promise}
-use Rattle.record.specs.Class.{headOf}
+use Rattle.record.specs.declared.origin.Origin.{Origin}
 use Rattle.record.specs.declared.kinds.Record.{Record}
-use Rattle.rule.specs.Has.{has, recordIl, editionsOf}
+use Rattle.rule.specs.Has.{recordClass, recordIl, has, editionsOf}
 use Rattle.syndrome.specs.Form.{longForm}
 use Rattle.syndrome.specs.Answer.{asWritten, writtenNumbers}
 use Rattle.syndrome.specs.declared.answer.Written.{Written}
 
-unfoldable pub writeOf : ℕ → Record → Written
-writeOf e r = asWritten (Form.writeAs longForm e r)
+module _ (o : Origin) where
+  unfoldable pub writeOf : ℕ → Record → Written
+  writeOf e r = asWritten (Form.writeAs (longForm o) e r)
 
--- the tests, each with its number
-abbrev pub writeList : ℕ → Record → List (Test ℕ)
-writeList e r =
-    needs (isEdition e) 1
-    ∷ needs (headOf r .own) 5
-    ∷ needs (recordIl r) 4
-    ∷ needs (someHas editions (λ x. has x r)) 5
-    ∷ needs (has e r) 6
-    ∷ []
+  -- the tests, each with its number
+  abbrev pub writeList : ℕ → Record → List (Test ℕ)
+  writeList e r =
+      needs (isEdition e) 1
+      ∷ needs (recordClass o r) 5
+      ∷ needs (recordIl o r) 4
+      ∷ needs (someHas editions (λ x. has o x r)) 5
+      ∷ needs (has o e r) 6
+      ∷ []
 
--- THE PROMISE of writing: the answer; its number, that of the first test that fails; and with 6 alone the mask of the editions that have the record, and how
--- many they are
-abbrev pub Writing : ℕ → Record → Written → Type 0
-Writing e r = Promise writtenNumbers (writeOf e r) (decide (writeList e r) 0) (editionsOf r) (countBelow editions (λ x. has x r))
+  -- THE PROMISE of writing: the answer; its number, that of the first test that fails; and with 6 alone the mask of the editions that have the record, and how
+  -- many they are
+  abbrev pub Writing : ℕ → Record → Written → Type 0
+  Writing e r = Promise writtenNumbers (writeOf e r) (decide (writeList e r) 0) (editionsOf o r) (countBelow editions (λ x. has o x r))

@@ -1,4 +1,4 @@
-// Syndrome words (ESR): read and written in each edition.
+// Syndrome words (ESR): read and written in each edition, from the origin that the caller says.
 //
 // A word has one record, whatever the edition: what stands at the bits of its class. A record has one set of editions, its mask. An
 // edition only asks whether its bit stands in the mask.
@@ -18,24 +18,26 @@ pub use answer::Written;
 use edition::Refusal;
 use edition::Verdict;
 use record::Esr;
+use record::Origin;
 use record::Record;
 
 // The editions that have a record which is to make the word: none where some bit of the word is not the record's.
-fn word_editions(r: Record, word: u64) -> u32
-    ensures { λ m. ⌜ m ≡ maskOf (λ e. makes e r word) ⌝ }
+fn word_editions(origin: Origin, r: Record, word: u64) -> u32
+    ensures { λ m. ⌜ m ≡ maskOf (λ e. makes origin e r word) ⌝ }
 {
     if layout::joined(r) == word {
-        rule::editions(r)
+        rule::editions(origin, r)
     } else {
         0
     }
 }
 
-// Whether IL is 1 where the word's class and ISV ask for it.
-fn word_il(word: u64) -> bool
-    ensures { λ yes. ⌜ yes ≡ wordIl word ⌝ }
+// Whether IL is 1 where the origin and the word's class and ISV ask for it.
+fn word_il(origin: Origin, word: u64) -> bool
+    ensures { λ yes. ⌜ yes ≡ wordIl origin word ⌝ }
 {
     rule::il_rule(
+        origin,
         bits::field32(word, 31, 26),
         bits::bit(word, 24),
         bits::bit(word, 25),
@@ -43,8 +45,8 @@ fn word_il(word: u64) -> bool
 }
 
 // Reads a syndrome word in an edition.
-pub fn read(edition: u32, esr: Esr) -> Read
-    ensures { λ a. ⌜ Reading edition esr a ⌝ }
+pub fn read(origin: Origin, edition: u32, esr: Esr) -> Read
+    ensures { λ a. ⌜ Reading origin edition esr a ⌝ }
 {
     let word = esr.0;
     if !edition::known(edition) {
@@ -53,56 +55,56 @@ pub fn read(edition: u32, esr: Esr) -> Read
     if bits::field(word, 63, 32) != 0 {
         return Read::Refused(Refusal::UpperHalf);
     }
-    if !record::is_class(bits::field32(word, 31, 26)) {
+    if !record::is_class(origin, bits::field32(word, 31, 26)) {
         return Read::Refused(Refusal::UnknownClass);
     }
-    if !word_il(word) {
+    if !word_il(origin, word) {
         return Read::Refused(Refusal::ShortInstruction);
     }
     let r = record::record_at(esr);
-    match edition::judge(edition, word_editions(r, word)) {
+    match edition::judge(edition, word_editions(origin, r, word)) {
         Verdict::Taken => Read::Taken(r),
         Verdict::Refused(refusal) => Read::Refused(refusal),
     }
 }
 
 // Writes a record in an edition.
-pub fn write(edition: u32, r: Record) -> Written
-    ensures { λ a. ⌜ Writing edition r a ⌝ }
+pub fn write(origin: Origin, edition: u32, r: Record) -> Written
+    ensures { λ a. ⌜ Writing origin edition r a ⌝ }
 {
     let h = record::head(r);
     if !edition::known(edition) {
         return Written::Refused(Refusal::UnknownEdition);
     }
-    if !h.own {
+    if !(h.own & record::is_class(origin, h.class)) {
         return Written::Refused(Refusal::NoEdition);
     }
-    if !rule::il_rule(h.class, h.isv, h.il) {
+    if !rule::il_rule(origin, h.class, h.isv, h.il) {
         return Written::Refused(Refusal::ShortInstruction);
     }
-    match edition::judge(edition, rule::editions(r)) {
+    match edition::judge(edition, rule::editions(origin, r)) {
         Verdict::Taken => Written::Word(Esr(layout::joined(r))),
         Verdict::Refused(refusal) => Written::Refused(refusal),
     }
 }
 
 // Demand 2 beside running code: reads a word and writes its record again. A word that is taken comes back with the same 64 bits.
-pub fn rewrite(edition: u32, esr: Esr) -> Written
-    ensures { λ a. ⌜ Rewriting edition esr a ⌝ }
+pub fn rewrite(origin: Origin, edition: u32, esr: Esr) -> Written
+    ensures { λ a. ⌜ Rewriting origin edition esr a ⌝ }
 {
-    match read(edition, esr) {
-        Read::Taken(r) => write(edition, r),
+    match read(origin, edition, esr) {
+        Read::Taken(r) => write(origin, edition, r),
         Read::Refused(refusal) => Written::Refused(refusal),
     }
 }
 
-// Demand 3 beside running code: writes a record in one edition and reads the word in another. The very record comes back where the reader's edition has
+// Demand 3 beside running code: writes a record in one edition and reads the word in another, from one origin. The very record comes back where the reader's edition has
 // it, else refusal 6.
-pub fn carry(writer: u32, reader: u32, r: Record) -> Carried
-    ensures { λ c. ⌜ Carrying writer reader r c ⌝ }
+pub fn carry(origin: Origin, writer: u32, reader: u32, r: Record) -> Carried
+    ensures { λ c. ⌜ Carrying origin writer reader r c ⌝ }
 {
-    match write(writer, r) {
-        Written::Word(esr) => Carried::Read(read(reader, esr)),
+    match write(origin, writer, r) {
+        Written::Word(esr) => Carried::Read(read(origin, reader, esr)),
         Written::Refused(refusal) => Carried::Unwritten(refusal),
     }
 }

@@ -1,4 +1,5 @@
--- Reading a whole trap (01, 'Numbers a call may answer'): 1 to 6 as the syndrome reader gives them, then 7, then 8, or the trap.
+-- Reading a whole trap (01, 'Numbers a call may answer'): 1 to 6 as the syndrome reader gives them, then 7, then 8, or the trap. 8 is
+-- given from AArch32 alone (02, C-23).
 use Prim.Native.Nat.{ℕ}
 use mathlib.Core.Bool.{Bool}
 use mathlib.Core.List.{List, [], _∷_, _++_}
@@ -9,6 +10,7 @@ use Rattle.form.specs.Promise.{Promise}
 use Rattle.iss.specs.Rule.{implies}
 use Rattle.record.specs.Addresses.{addressesOf}
 use Rattle.record.specs.Split.{recordAt}
+use Rattle.record.specs.declared.origin.Origin.{Origin}
 use Rattle.record.specs.declared.kinds.Addresses.{Addresses}
 use Rattle.record.specs.declared.kinds.Esr.{Esr}
 use Rattle.record.specs.declared.kinds.Record.{Record}
@@ -27,35 +29,36 @@ use Rattle.trap.specs.declared.Answer.{Answer}
 abbrev pub hpfarRight : ℕ → Addresses → Hpfar → Bool
 hpfarRight e a hpfar = implies (hpfarCounts a) (hpfarRule e hpfar)
 
--- 8: bits 63:32 of FAR are zero, where FAR counts
-abbrev pub farRight : Addresses → Far → Bool
-farRight a far = implies (farCounts a) (farRule far)
+module _ (o : Origin) where
+  -- 8: bits 63:32 of FAR are zero, where FAR counts and the trap came from AArch32
+  abbrev pub farRight : Addresses → Far → Bool
+  farRight a far = implies (farCounts a) (farRule o far)
 
--- the syndrome is taken: 7, then 8, then the trap
-unfoldable pub answerRecord : ℕ → Record → Far → Hpfar → Answer
-answerRecord e r far hpfar =
-    decide
-    (needs (hpfarRight e (addressesOf r) hpfar) (Answer.Refused TrapRefusal.Hpfar)
-    ∷ needs (farRight (addressesOf r) far) (Answer.Refused TrapRefusal.Far)
-    ∷ [])
-    (Answer.Shown (trapOf r far hpfar))
+  -- the syndrome is taken: 7, then 8, then the trap
+  unfoldable pub answerRecord : ℕ → Record → Far → Hpfar → Answer
+  answerRecord e r far hpfar =
+      decide
+      (needs (hpfarRight e (addressesOf r) hpfar) (Answer.Refused TrapRefusal.Hpfar)
+      ∷ needs (farRight (addressesOf r) far) (Answer.Refused TrapRefusal.Far)
+      ∷ [])
+      (Answer.Shown (trapOf r far hpfar))
 
-abbrev pub answerRead : ℕ → Read → Far → Hpfar → Answer
-answerRead e (Read.Taken r) far hpfar = answerRecord e r far hpfar
-answerRead e (Read.Refused refusal) far hpfar = Answer.Refused (TrapRefusal.Syndrome refusal)
+  abbrev pub answerRead : ℕ → Read → Far → Hpfar → Answer
+  answerRead e (Read.Taken r) far hpfar = answerRecord e r far hpfar
+  answerRead e (Read.Refused refusal) far hpfar = Answer.Refused (TrapRefusal.Syndrome refusal)
 
-unfoldable pub answerOf : ℕ → Esr → Far → Hpfar → Answer
-answerOf e esr far hpfar = answerRead e (readOf e esr) far hpfar
+  unfoldable pub answerOf : ℕ → Esr → Far → Hpfar → Answer
+  answerOf e esr far hpfar = answerRead e (readOf o e esr) far hpfar
 
--- the tests, each with its number: the syndrome's, then those of the registers that count by the record at its bits
-abbrev pub trapList : ℕ → Esr → Far → Hpfar → List (Test ℕ)
-trapList e esr far hpfar =
-    readList e esr
-    ++ (needs (hpfarRight e (addressesOf (recordAt (esr .0))) hpfar) 7 ∷ needs (farRight (addressesOf (recordAt (esr .0))) far) 8 ∷ [])
+  -- the tests, each with its number: the syndrome's, then those of the registers that count by the record at its bits
+  abbrev pub trapList : ℕ → Esr → Far → Hpfar → List (Test ℕ)
+  trapList e esr far hpfar =
+      readList o e esr
+      ++ (needs (hpfarRight e (addressesOf (recordAt (esr .0))) hpfar) 7 ∷ needs (farRight (addressesOf (recordAt (esr .0))) far) 8 ∷ [])
 
--- THE PROMISE of reading a trap: the answer; its number, that of the first test that fails; and with 6 alone the mask of the editions that have the word, and
--- how many they are
-abbrev pub TrapReading : ℕ → Esr → Far → Hpfar → Answer → Type 0
-TrapReading e esr far hpfar =
-    Promise answerNumbers (answerOf e esr far hpfar) (decide (trapList e esr far hpfar) 0) (maskOf (λ x. hasWord x (esr .0)))
-    (countBelow editions (λ x. hasWord x (esr .0)))
+  -- THE PROMISE of reading a trap: the answer; its number, that of the first test that fails; and with 6 alone the mask of the editions that have the word, and
+  -- how many they are
+  abbrev pub TrapReading : ℕ → Esr → Far → Hpfar → Answer → Type 0
+  TrapReading e esr far hpfar =
+      Promise answerNumbers (answerOf e esr far hpfar) (decide (trapList e esr far hpfar) 0) (maskOf (λ x. hasWord o x (esr .0)))
+      (countBelow editions (λ x. hasWord o x (esr .0)))

@@ -4,6 +4,7 @@ use Rattle.bits.specs.Decide.{decide}
 use Rattle.edition.specs.Feature.{editions}
 use Rattle.edition.specs.Mask.{maskOf, countBelow}
 use Rattle.form.specs.Promise.{Promise}
+use Rattle.record.specs.declared.origin.Origin.{Origin}
 use Rattle.record.specs.declared.kinds.Esr.{Esr}
 use Rattle.address.specs.declared.Far.{Far}
 use Rattle.address.specs.declared.Hpfar.{Hpfar}
@@ -18,11 +19,12 @@ bothFrom (Answer.Shown trap) (Answer.Shown other) = Both.Shown trap trap
 bothFrom (Answer.Shown trap) (Answer.Refused refusal) = Both.Refused refusal
 bothFrom (Answer.Refused refusal) other = Both.Refused refusal
 
-unfoldable pub bothOf : ℕ → ℕ → Esr → Far → Hpfar → Both
-bothOf first second esr far hpfar = bothFrom (answerOf first esr far hpfar) (answerOf second esr far hpfar)
+module _ (o : Origin) where
+  unfoldable pub bothOf : ℕ → ℕ → Esr → Far → Hpfar → Both
+  bothOf first second esr far hpfar = bothFrom (answerOf o first esr far hpfar) (answerOf o second esr far hpfar)
 
--- the number: the first edition's tests, then the second's
-abbrev pub BothReading : ℕ → ℕ → Esr → Far → Hpfar → Both → Type 0
-BothReading first second esr far hpfar =
-    Promise bothNumbers (bothOf first second esr far hpfar) (decide (trapList first esr far hpfar) (decide (trapList second esr far hpfar) 0))
-    (maskOf (λ x. hasWord x (esr .0))) (countBelow editions (λ x. hasWord x (esr .0)))
+  -- the number: the first edition's tests, then the second's
+  abbrev pub BothReading : ℕ → ℕ → Esr → Far → Hpfar → Both → Type 0
+  BothReading first second esr far hpfar =
+      Promise bothNumbers (bothOf first second esr far hpfar) (decide (trapList o first esr far hpfar) (decide (trapList o second esr far hpfar) 0))
+      (maskOf (λ x. hasWord o x (esr .0))) (countBelow editions (λ x. hasWord o x (esr .0)))

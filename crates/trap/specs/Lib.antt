@@ -2,3 +2,4 @@ pub mod Numbers
 pub mod Trap
 pub mod Answer
 pub mod Both
+pub mod Base

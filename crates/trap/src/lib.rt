@@ -1,4 +1,4 @@
-// The whole trap: a syndrome with exactly the addresses that are known.
+// The whole trap: a syndrome with exactly the addresses that are known, from the origin that the caller says.
 ghost use mathlib.Core.Path.{_≡_};
 ghost use Rattle.trap.specs.Numbers.{trapNumber, trapMask, trapCount};
 ghost use Rattle.trap.specs.Trap.{trapFrom};
@@ -11,6 +11,7 @@ use address::VirtualAddress;
 use edition::Refusal;
 use record::Addresses;
 use record::Esr;
+use record::Origin;
 use record::Record;
 use syndrome::Read;
 
@@ -40,7 +41,7 @@ pub enum TrapRefusal {
     Syndrome(Refusal),
     // 7: HPFAR counts, and a bit outside its field is set.
     Hpfar,
-    // 8: FAR counts, and its bits 63:32 are not zero.
+    // 8: FAR counts, and its bits 63:32 are not zero. From AArch32 alone.
     Far,
 }
 
@@ -109,25 +110,25 @@ fn trap_from(known: Addresses, r: Record, far: Far, hpfar: Hpfar) -> Trap
 }
 
 // Tests the registers that count, and shows the trap.
-fn answer_record(edition: u32, r: Record, far: Far, hpfar: Hpfar) -> Answer
-    ensures { λ a. ⌜ a ≡ answerRecord edition r far hpfar ⌝ }
+fn answer_record(origin: Origin, edition: u32, r: Record, far: Far, hpfar: Hpfar) -> Answer
+    ensures { λ a. ⌜ a ≡ answerRecord origin edition r far hpfar ⌝ }
 {
     let known = record::addresses(r);
     if address::hpfar_counts(known) & !address::hpfar_rule(edition, hpfar) {
         return Answer::Refused(TrapRefusal::Hpfar);
     }
-    if address::far_counts(known) & !address::far_rule(far) {
+    if address::far_counts(known) & !address::far_rule(origin, far) {
         return Answer::Refused(TrapRefusal::Far);
     }
     Answer::Shown(trap_from(known, r, far, hpfar))
 }
 
 // Reads a whole trap, from all three registers, in an edition.
-pub fn read(edition: u32, esr: Esr, far: Far, hpfar: Hpfar) -> Answer
-    ensures { λ a. ⌜ TrapReading edition esr far hpfar a ⌝ }
+pub fn read(origin: Origin, edition: u32, esr: Esr, far: Far, hpfar: Hpfar) -> Answer
+    ensures { λ a. ⌜ TrapReading origin edition esr far hpfar a ⌝ }
 {
-    match syndrome::read(edition, esr) {
-        Read::Taken(r) => answer_record(edition, r, far, hpfar),
+    match syndrome::read(origin, edition, esr) {
+        Read::Taken(r) => answer_record(origin, edition, r, far, hpfar),
         Read::Refused(refusal) => Answer::Refused(TrapRefusal::Syndrome(refusal)),
     }
 }
@@ -138,12 +139,12 @@ pub enum Both {
     Refused(TrapRefusal),
 }
 
-// Demand 3 beside running code: reads a whole trap in two editions. Where both show it, they show the same.
-pub fn read_both(first: u32, second: u32, esr: Esr, far: Far, hpfar: Hpfar) -> Both
-    ensures { λ b. ⌜ BothReading first second esr far hpfar b ⌝ }
+// Demand 3 beside running code: reads a whole trap in two editions, from one origin. Where both show it, they show the same.
+pub fn read_both(origin: Origin, first: u32, second: u32, esr: Esr, far: Far, hpfar: Hpfar) -> Both
+    ensures { λ b. ⌜ BothReading origin first second esr far hpfar b ⌝ }
 {
-    match read(first, esr, far, hpfar) {
-        Answer::Shown(trap) => match read(second, esr, far, hpfar) {
+    match read(origin, first, esr, far, hpfar) {
+        Answer::Shown(trap) => match read(origin, second, esr, far, hpfar) {
             Answer::Shown(other) => Both::Shown(trap, other),
             Answer::Refused(refusal) => Both::Refused(refusal),
         },

@@ -14,6 +14,7 @@ use Rattle.edition.specs.Feature.{editions}
 use Rattle.log_text.proofs.Room.{decimal-field-length, hex-field-length, words-length}
 use Rattle.log_text.specs.Lines.{decimalField, hexField, wordsText}
 use Rattle.record.specs.declared.kinds.Esr.{Esr}
+use Rattle.record.specs.declared.origin.Origin.{Origin}
 use Rattle.trap.specs.Answer.{answerOf}
 use Rattle.trap.specs.Numbers.{trapNumber, trapMask, trapCount}
 use Rattle.trap.specs.Trap.{virtualIn, intermediateIn}
@@ -45,7 +46,7 @@ answer-length (Answer.Refused r) =
 shown-length : (edition : ℕ) (esr : Esr) (far : Far) (hpfar : Hpfar) → length (shownText edition esr far hpfar) ≤ 128
 shown-length edition esr far hpfar =
     let n = decimal-field-length edition in
-    let a = answer-length (answerOf edition esr far hpfar) in
+    let a = answer-length (answerOf Origin.AArch32 edition esr far hpfar) in
     simp length-append (omega arith)
 
 lines-length : (n mask : ℕ) (line : ℕ → List ℕ) → ((e : ℕ) → length (line e) ≤ 128) → length (linesBelow n mask line) ≤ 128 * n

@@ -13,6 +13,7 @@ use address::VirtualAddress;
 use log_text::decimal_field;
 use log_text::hex_field;
 use record::Esr;
+use record::Origin;
 use trap::Answer;
 use trap::Trap;
 use trap::TrapRefusal;
@@ -79,7 +80,7 @@ fn answer(out: &mut [u8], at: usize, a: Answer) -> usize
     }
 }
 
-// What an edition makes of a trap.
+// What an edition makes of a trap: a log holds traps from AArch32.
 pub fn shown_line(
     out: &mut [u8],
     at: usize,
@@ -92,7 +93,11 @@ pub fn shown_line(
 {
     let word = text::append(out, at, b"in");
     let number = decimal_field(out, word, edition as u64);
-    let told = answer(out, number, trap::read(edition, esr, far, hpfar));
+    let told = answer(
+        out,
+        number,
+        trap::read(Origin::AArch32, edition, esr, far, hpfar),
+    );
     text::append(out, told, b"\n")
 }
 

@@ -12,6 +12,7 @@ use Rattle.edition.specs.declared.Refusal.{Refusal}
 use Rattle.line.specs.Feed.{started, fed, finished}
 use Rattle.line.specs.declared.Line.{Line}
 use Rattle.line.specs.declared.State.{State}
+use Rattle.record.specs.declared.origin.Origin.{Origin}
 use Rattle.syndrome.specs.Reading.{readOf}
 use Rattle.syndrome.specs.declared.answer.Read.{Read}
 use Rattle.text.proofs.Numerals.{decimal-length}
@@ -30,7 +31,7 @@ read-length (Read.Taken r) = omega arith
 read-length (Read.Refused refusal) = refused-length refusal
 
 pub answer-length : (line : Line) → length (answerText line) ≤ 128
-answer-length (Line.Question edition word) = read-length (readOf edition (record { 0 = word }))
+answer-length (Line.Question edition word) = read-length (readOf Origin.AArch32 edition (record { 0 = word }))
 answer-length Line.NoLine = omega arith
 
 pub chunk-length : (s : State) (chunk : List ℕ) → length (answersIn s chunk) ≤ 128 * length chunk

@@ -1,9 +1,10 @@
--- The answer to a line, with its newline.
+-- The answer to a line, with its newline. The program reads traps from AArch32 (02, C-23).
 use Prim.Native.Nat.{ℕ}
 use mathlib.Core.List.{List, _++_}
 use Rattle.edition.specs.Judge.{refusalNumber, refusalMask, refusalCount}
 use Rattle.edition.specs.declared.Refusal.{Refusal}
 use Rattle.line.specs.declared.Line.{Line}
+use Rattle.record.specs.declared.origin.Origin.{Origin}
 use Rattle.syndrome.specs.Reading.{readOf}
 use Rattle.syndrome.specs.declared.answer.Read.{Read}
 use Rattle.text.specs.Ascii.{ascii}
@@ -22,5 +23,5 @@ readText (Read.Taken r) = ascii "taken\n"
 readText (Read.Refused refusal) = refusedText refusal
 
 abbrev pub answerText : Line → List ℕ
-answerText (Line.Question edition word) = readText (readOf edition (record { 0 = word }))
+answerText (Line.Question edition word) = readText (readOf Origin.AArch32 edition (record { 0 = word }))
 answerText Line.NoLine = ascii "no line\n"

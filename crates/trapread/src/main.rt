@@ -1,4 +1,4 @@
-// Reads lines from standard input, each an edition and a syndrome word, and writes what reading the word in that edition answers.
+// Reads lines from standard input, each an edition and a syndrome word, and writes what reading the word in that edition answers, of a trap from AArch32.
 //
 // Input and lines may have any length: a chunk of the input is held at a time, and of a line what `line` keeps of it. The answers to a
 // chunk are written before the next one is read.
@@ -15,6 +15,7 @@ use libc::STDOUT_FILENO;
 use line::Line;
 use line::State;
 use record::Esr;
+use record::Origin;
 use syndrome::Read;
 
 // Appends a space and a number.
@@ -40,7 +41,11 @@ fn answer(out: &mut [u8], at: usize, line: Line) -> usize
     ensures { λ end. ⌜ Appends (answerText line) (now (out .entry)) at (now (out .exit)) end ⌝ }
 {
     match line {
-        Line::Question { edition, word } => match syndrome::read(edition, Esr(word)) {
+        Line::Question { edition, word } => match syndrome::read(
+            Origin::AArch32,
+            edition,
+            Esr(word),
+        ) {
             Read::Taken(_) => text::append(out, at, b"taken\n"),
             Read::Refused(refusal) => refused(out, at, refusal),
         },

@@ -13,6 +13,7 @@ use Rattle.edition.specs.Feature.{editions as longCount}
 use Rattle.edition.specs.Mask.{maskBelow, maskOf as longMask}
 use Rattle.edition.proofs.Masks.{some-or-none, mask-zero}
 use Rattle.form.proofs.Calls.{OneHas}
+use Rattle.record.specs.declared.origin.Origin.{Origin}
 use Rattle.record.specs.declared.kinds.Record.{Record as Long}
 use Rattle.rule.specs.Has.{has as longHas, editionsOf as longEditions}
 use Rattle.short_record.specs.declared.kinds.Record.{Record as Short}
@@ -36,26 +37,26 @@ module _ (mode : ℕ) (r : Short) where
   -- what the change asks for: an accepted mode, a record that some short edition has, no known register 15, and a result that some long edition has
   abbrev pub Allowed : Type 0
   Allowed =
-      (isMode mode ≡ true) × OneHas shortCount (λ e. shortHas e r) × (usesPc r ≡ false) × OneHas longCount (λ e. longHas e (longOf mode r))
+      (isMode mode ≡ true) × OneHas shortCount (λ e. shortHas e r) × (usesPc r ≡ false) × OneHas longCount (λ e. longHas Origin.AArch32 e (longOf mode r))
 
   given : Allowed → widenOf mode r ≡ Widened.Long (longOf mode r)
   unfolding shortMask longMask
   given ok =
       widen-given mode r (ok .0) (not-empty shortCount (λ e. shortHas e r) (ok .1)) (ok .2)
-      (not-empty longCount (λ e. longHas e (longOf mode r)) (ok .3))
+      (not-empty longCount (λ e. longHas Origin.AArch32 e (longOf mode r)) (ok .3))
 
   asked : (l : Long) → widenOf mode r ≡ Widened.Long l → Allowed
   unfolding shortMask longMask
-  asked l t = by (isMode mode) refl (eqb (shortEditions r) 0) refl (usesPc r) refl (eqb (longEditions (longOf mode r)) 0) refl
+  asked l t = by (isMode mode) refl (eqb (shortEditions r) 0) refl (usesPc r) refl (eqb (longEditions Origin.AArch32 (longOf mode r)) 0) refl
     where
       by : (k : Bool) → isMode mode ≡ k → (s : Bool) → eqb (shortEditions r) 0 ≡ s → (p : Bool) → usesPc r ≡ p → (n : Bool)
-          → eqb (longEditions (longOf mode r)) 0 ≡ n → Allowed
+          → eqb (longEditions Origin.AArch32 (longOf mode r)) 0 ≡ n → Allowed
       by false k s hs p hp n hn = absurd-answer (cc (t, widen-mode mode r k))
       by true k true hs p hp n hn = absurd-answer (cc (t, widen-short mode r k hs))
       by true k false hs true hp n hn = absurd-answer (cc (t, widen-pc mode r k hs hp))
       by true k false hs false hp true hn = absurd-answer (cc (t, widen-long mode r k hs hp hn))
       by true k false hs false hp false hn =
-          (k, some-edition shortCount (λ e. shortHas e r) hs, hp, some-edition longCount (λ e. longHas e (longOf mode r)) hn)
+          (k, some-edition shortCount (λ e. shortHas e r) hs, hp, some-edition longCount (λ e. longHas Origin.AArch32 e (longOf mode r)) hn)
 
   -- THE CHANGE EXACTLY: a long record comes exactly when all four hold, and it is the one that the short record's fields make
   pub widened-exactly : (l : Long) → (widenOf mode r ≡ Widened.Long l) ↔ (Allowed × (longOf mode r ≡ l))
@@ -66,10 +67,10 @@ module _ (mode : ℕ) (r : Short) where
   )
 
   -- what it answers, some long edition has
-  pub widened-had : (l : Long) → widenOf mode r ≡ Widened.Long l → OneHas longCount (λ e. longHas e l)
+  pub widened-had : (l : Long) → widenOf mode r ≡ Widened.Long l → OneHas longCount (λ e. longHas Origin.AArch32 e l)
   widened-had l t =
       let h = widened-exactly l .0 t in
-      subst (λ (x : Long). OneHas longCount (λ e. longHas e x)) (h .1) (h .0 .3)
+      subst (λ (x : Long). OneHas longCount (λ e. longHas Origin.AArch32 e x)) (h .1) (h .0 .3)
 
   -- each number exactly: three tests answer 5
   pub widen-refused-exactly : (k : ℕ) → (numberWidened (widenOf mode r) ≡ k) ↔ FailsWith k (widenList mode r)

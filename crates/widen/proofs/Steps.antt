@@ -5,6 +5,7 @@ use mathlib.Core.Bool.{true, false}
 use Prim.Native.Nat.{ℕ}
 use lib.Dec.{eqb}
 use Rattle.bits.proofs.Deciding.{decide-relabel}
+use Rattle.record.specs.declared.origin.Origin.{Origin}
 use Rattle.rule.specs.Has.{editionsOf as longEditions}
 use Rattle.short_record.specs.declared.kinds.Record.{Record as Short}
 use Rattle.short_rule.specs.Has.{editionsOf as shortEditions}
@@ -30,11 +31,11 @@ module _ (mode : ℕ) (r : Short) where
       widen-pc p = simp (k, s, p)
 
       module _ (p : usesPc r ≡ false) where
-        pub widen-long : eqb (longEditions (longOf mode r)) 0 ≡ true → widenOf mode r ≡ Widened.NoEdition
+        pub widen-long : eqb (longEditions Origin.AArch32 (longOf mode r)) 0 ≡ true → widenOf mode r ≡ Widened.NoEdition
         unfolding widenOf
         widen-long l = simp (k, s, p, l)
 
-        pub widen-given : eqb (longEditions (longOf mode r)) 0 ≡ false → widenOf mode r ≡ Widened.Long (longOf mode r)
+        pub widen-given : eqb (longEditions Origin.AArch32 (longOf mode r)) 0 ≡ false → widenOf mode r ≡ Widened.Long (longOf mode r)
         unfolding widenOf
         widen-given l = simp (k, s, p, l)
 

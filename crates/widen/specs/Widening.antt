@@ -6,6 +6,7 @@ use mathlib.Core.Bool.{Bool, not}
 use mathlib.Core.List.{List, [], _∷_}
 use lib.Dec.{eqb}
 use Rattle.bits.specs.Decide.{Test, needs, decide}
+use Rattle.record.specs.declared.origin.Origin.{Origin}
 use Rattle.record.specs.declared.kinds.Record.{Record as Long}
 use Rattle.rule.specs.Has.{editionsOf as longEditions}
 use Rattle.short_record.specs.declared.kinds.Record.{Record as Short}
@@ -19,8 +20,9 @@ use Rattle.widen.specs.Long.{longOf}
 abbrev pub someShort : Short → Bool
 someShort r = not (eqb (shortEditions r) 0)
 
+-- from AArch32, which a guest with short records is in
 abbrev pub someLong : Long → Bool
-someLong r = not (eqb (longEditions r) 0)
+someLong r = not (eqb (longEditions Origin.AArch32 r) 0)
 
 -- the tests, each with its answer
 abbrev pub widenTests : ℕ → Short → List (Test Widened)

@@ -3,6 +3,7 @@ ghost use mathlib.Core.Path.{_≡_};
 ghost use Rattle.widen.specs.Register.{mapped, base, usesPc};
 ghost use Rattle.widen.specs.Long.{longPlain, longMcr, longMcrr, longLdc, longSimd, longInstructionAbort, longDataAbort, longOf};
 ghost use Rattle.widen.specs.Widening.{Widening};
+use record::Origin;
 use short_record::Record;
 use status::Held;
 
@@ -176,7 +177,7 @@ fn long_record(mode: u32, r: Record) -> record::Record
     }
 }
 
-// Changes a short record to a long one, given the number of the guest's mode.
+// Changes a short record to a long one, given the number of the guest's mode. The guest is in AArch32, and stays so.
 pub fn widen(mode: u32, r: Record) -> Widened
     ensures { λ a. ⌜ Widening mode r a ⌝ }
 {
@@ -190,7 +191,7 @@ pub fn widen(mode: u32, r: Record) -> Widened
         return Widened::NoEdition;
     }
     let long = long_record(mode, r);
-    if rule::editions(long) == 0 {
+    if rule::editions(Origin::AArch32, long) == 0 {
         return Widened::NoEdition;
     }
     Widened::Long(long)

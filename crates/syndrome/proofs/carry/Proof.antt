@@ -26,16 +26,16 @@ returns c =
     let a = c .before .before .before .before .before .args in
     let told = c .before .before .esr .given in
     let put = sym (c .before .before .before .before .write .ensures .answer) ∙ told .1 in
-    carries (a .writer) (a .reader) (a .r)
-    (ap Carried.Read (c .read .ensures .answer ∙ read-back (a .writer) (a .reader) (told .0 .0) (a .r) put)
-    ∙ sym (carried-word (a .writer) (a .reader) (a .r) (told .0 .0) put))
+    carries (a .origin) (a .writer) (a .reader) (a .r)
+    (ap Carried.Read (c .read .ensures .answer ∙ read-back (a .origin) (a .writer) (a .reader) (told .0 .0) (a .r) put)
+    ∙ sym (carried-word (a .origin) (a .writer) (a .reader) (a .r) (told .0 .0) put))
 
 returns-2 : tie.Need-returns-2
 returns-2 c =
     let a = c .before .before .before .before .args in
     let told = c .before .refusal .given in
-    carries (a .writer) (a .reader) (a .r)
-    (sym (carried-unwritten (a .writer) (a .reader) (a .r) (told .0 .0) (sym (c .before .before .before .write .ensures .answer) ∙ told .1)))
+    carries (a .origin) (a .writer) (a .reader) (a .r)
+    (sym (carried-unwritten (a .origin) (a .writer) (a .reader) (a .r) (told .0 .0) (sym (c .before .before .before .write .ensures .answer) ∙ told .1)))
 
 pub carry-spec : {M : Type 1} → statement M
 carry-spec =

@@ -11,6 +11,7 @@ use Rattle.edition.specs.Judge.{judgeOf}
 use Rattle.edition.specs.declared.Verdict.{Verdict}
 use Rattle.record.specs.Class.{isClass}
 use Rattle.record.specs.Split.{recordAt}
+use Rattle.record.specs.declared.origin.Origin.{Origin}
 use Rattle.record.specs.declared.kinds.Esr.{Esr}
 use Rattle.record.specs.declared.kinds.Record.{Record}
 use Rattle.syndrome.specs.Inner.{makes}
@@ -22,12 +23,12 @@ use Rattle.syndrome.proofs.read.Statement.{statement}
 use Rattle.syndrome.proofs.read.Tie as tie
 
 -- what the code makes of a verdict that it came to
-judged : (e : ℕ) (esr : Esr) → isEdition e ≡ true → upperClear (esr .0) ≡ true → classKnown (esr .0) ≡ true → wordIl (esr .0) ≡ true
-    → {r : Record} {m : ℕ} {came verdict : Verdict} → r ≡ recordAt (esr .0) → m ≡ maskOf (λ x. makes x r (esr .0)) → came ≡ judgeOf e m → came ≡ verdict
-    → readVerdict r verdict ≡ readOf e esr
-judged e esr k u c l {r} at mask judge same =
-    sym (read-judged e esr k u c l
-    ∙ ap (λ (s : Record). readVerdict s (judgeOf e (maskOf (λ x. makes x s (esr .0))))) (sym at)
+judged : (o : Origin) (e : ℕ) (esr : Esr) → isEdition e ≡ true → upperClear (esr .0) ≡ true → classKnown o (esr .0) ≡ true → wordIl o (esr .0) ≡ true
+    → {r : Record} {m : ℕ} {came verdict : Verdict} → r ≡ recordAt (esr .0) → m ≡ maskOf (λ x. makes o x r (esr .0)) → came ≡ judgeOf e m → came ≡ verdict
+    → readVerdict r verdict ≡ readOf o e esr
+judged o e esr k u c l {r} at mask judge same =
+    sym (read-judged o e esr k u c l
+    ∙ ap (λ (s : Record). readVerdict s (judgeOf e (maskOf (λ x. makes o x s (esr .0))))) (sym at)
     ∙ ap (readVerdict r) (ap (judgeOf e) (sym mask) ∙ sym judge ∙ same))
 
 known-requires : tie.Need-known-requires
@@ -36,7 +37,7 @@ known-requires c κs = search needs
 returns : tie.Need-returns
 returns c =
     let a = c .before .before .args in
-    reads (a .edition) (a .esr) (sym (read-unknown (a .edition) (a .esr) (sym (c .before .known .ensures) ∙ not-true _ (c .if1 .taken))))
+    reads (a .origin) (a .edition) (a .esr) (sym (read-unknown (a .origin) (a .edition) (a .esr) (sym (c .before .known .ensures) ∙ not-true _ (c .if1 .taken))))
 
 field-requires : tie.Need-field-requires
 field-requires c κs = search needs
@@ -46,8 +47,8 @@ returns-2 c =
     let known = c .before .before in
     let a = known .before .before .args in
     let k = sym (known .before .known .ensures) ∙ not-false _ (known .if1 .left) in
-    reads (a .edition) (a .esr)
-    (sym (read-upper (a .edition) (a .esr) k (ne-eqb _ _ (λ z. c .if2 .taken (c .before .field .ensures ∙ z)))))
+    reads (a .origin) (a .edition) (a .esr)
+    (sym (read-upper (a .origin) (a .edition) (a .esr) k (ne-eqb _ _ (λ z. c .if2 .taken (c .before .field .ensures ∙ z)))))
 
 field32-requires : tie.Need-field32-requires
 field32-requires c κs = search needs
@@ -62,8 +63,8 @@ returns-3 c =
     let a = known .before .before .args in
     let k = sym (known .before .known .ensures) ∙ not-false _ (known .if1 .left) in
     let u = eq-eqb _ _ (sym (clear .before .field .ensures) ∙ clear .if2 .left) in
-    reads (a .edition) (a .esr)
-    (sym (read-class (a .edition) (a .esr) k u (sym (c .before .is-class .ensures ∙ ap isClass (c .before .before .field32 .ensures)) ∙ not-true _ (c .if3 .taken))))
+    reads (a .origin) (a .edition) (a .esr)
+    (sym (read-class (a .origin) (a .edition) (a .esr) k u (sym (c .before .is-class .ensures ∙ ap (isClass (a .origin)) (c .before .before .field32 .ensures)) ∙ not-true _ (c .if3 .taken))))
 
 word-il-requires : tie.Need-word-il-requires
 word-il-requires c κs = search needs
@@ -76,9 +77,9 @@ returns-4 c =
     let a = known .before .before .args in
     let k = sym (known .before .known .ensures) ∙ not-false _ (known .if1 .left) in
     let u = eq-eqb _ _ (sym (clear .before .field .ensures) ∙ clear .if2 .left) in
-    let b = sym (class .before .is-class .ensures ∙ ap isClass (class .before .before .field32 .ensures)) ∙ not-false _ (class .if3 .left) in
-    reads (a .edition) (a .esr)
-    (sym (read-short (a .edition) (a .esr) k u b (sym (c .before .word-il .ensures) ∙ not-true _ (c .if4 .taken))))
+    let b = sym (class .before .is-class .ensures ∙ ap (isClass (a .origin)) (class .before .before .field32 .ensures)) ∙ not-false _ (class .if3 .left) in
+    reads (a .origin) (a .edition) (a .esr)
+    (sym (read-short (a .origin) (a .edition) (a .esr) k u b (sym (c .before .word-il .ensures) ∙ not-true _ (c .if4 .taken))))
 
 record-at-requires : tie.Need-record-at-requires
 record-at-requires c κs = search needs
@@ -103,10 +104,10 @@ returns-5 c =
     let clear = class .before .before .before in
     let known = clear .before .before in
     let a = known .before .before .args in
-    reads (a .edition) (a .esr)
-    (judged (a .edition) (a .esr) (sym (known .before .known .ensures) ∙ not-false _ (known .if1 .left))
+    reads (a .origin) (a .edition) (a .esr)
+    (judged (a .origin) (a .edition) (a .esr) (sym (known .before .known .ensures) ∙ not-false _ (known .if1 .left))
     (eq-eqb _ _ (sym (clear .before .field .ensures) ∙ clear .if2 .left))
-    (sym (class .before .is-class .ensures ∙ ap isClass (class .before .before .field32 .ensures)) ∙ not-false _ (class .if3 .left))
+    (sym (class .before .is-class .ensures ∙ ap (isClass (a .origin)) (class .before .before .field32 .ensures)) ∙ not-false _ (class .if3 .left))
     (sym (long .before .word-il .ensures) ∙ not-false _ (long .if4 .left)) (at .before .before .record-at .ensures) (at .before .word-editions .ensures)
     (at .judge .ensures) (c .enum-told .given .1))
 
@@ -118,10 +119,10 @@ returns-6 c =
     let clear = class .before .before .before in
     let known = clear .before .before in
     let a = known .before .before .args in
-    reads (a .edition) (a .esr)
-    (judged (a .edition) (a .esr) (sym (known .before .known .ensures) ∙ not-false _ (known .if1 .left))
+    reads (a .origin) (a .edition) (a .esr)
+    (judged (a .origin) (a .edition) (a .esr) (sym (known .before .known .ensures) ∙ not-false _ (known .if1 .left))
     (eq-eqb _ _ (sym (clear .before .field .ensures) ∙ clear .if2 .left))
-    (sym (class .before .is-class .ensures ∙ ap isClass (class .before .before .field32 .ensures)) ∙ not-false _ (class .if3 .left))
+    (sym (class .before .is-class .ensures ∙ ap (isClass (a .origin)) (class .before .before .field32 .ensures)) ∙ not-false _ (class .if3 .left))
     (sym (long .before .word-il .ensures) ∙ not-false _ (long .if4 .left)) (at .before .before .record-at .ensures) (at .before .word-editions .ensures)
     (at .judge .ensures) (c .before .refusal .given .1))
 

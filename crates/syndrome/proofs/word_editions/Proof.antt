@@ -18,14 +18,14 @@ editions-requires c κs = search needs
 returns : tie.Need-returns
 returns c =
     let a = c .before .before .before .args in
-    c .editions .ensures ∙ ap (λ (b : Bool). cond b (editionsOf (a .r)) 0) (sym (eq-eqb _ _ (sym (c .before .before .joined .ensures) ∙ c .before .if1 .taken)))
-    ∙ makes-mask (a .r) (a .word)
+    c .editions .ensures ∙ ap (λ (b : Bool). cond b (editionsOf (a .origin) (a .r)) 0) (sym (eq-eqb _ _ (sym (c .before .before .joined .ensures) ∙ c .before .if1 .taken)))
+    ∙ makes-mask (a .origin) (a .r) (a .word)
 
 returns-2 : tie.Need-returns-2
 returns-2 c =
     let a = c .before .before .args in
-    ap (λ (b : Bool). cond b (editionsOf (a .r)) 0) (sym (ne-eqb _ _ (λ e. c .if1 .left (c .before .joined .ensures ∙ e))))
-    ∙ makes-mask (a .r) (a .word)
+    ap (λ (b : Bool). cond b (editionsOf (a .origin) (a .r)) 0) (sym (ne-eqb _ _ (λ e. c .if1 .left (c .before .joined .ensures ∙ e))))
+    ∙ makes-mask (a .origin) (a .r) (a .word)
 
 pub word-editions-spec : {M : Type 1} → statement M
 word-editions-spec = tie.close (tie.spec joined-requires editions-requires returns returns-2)

@@ -1,20 +1,21 @@
 -- `syndrome::write` meets its contract: the tests that led to each answer are those of `writeOf`, in its order.
 -- Assumes nothing.
 use borrow.Author.Needs.{needs}
-use mathlib.Core.Path.{_≡_, _∙_, sym, ap}
-use mathlib.Core.Bool.{Bool, true}
+use mathlib.Core.Path.{_≡_, _∙_, sym, ap, ap₂}
+use mathlib.Core.Bool.{Bool, true, _&&_}
 use Prim.Native.Nat.{ℕ}
 use borrow.Author.Tests.{not-true, not-false}
 use Rattle.bits.specs.Inner.{joinedFrom}
 use Rattle.edition.specs.Feature.{isEdition}
 use Rattle.edition.specs.Judge.{judgeOf}
 use Rattle.edition.specs.declared.Verdict.{Verdict}
-use Rattle.record.specs.Class.{headOf}
+use Rattle.record.specs.Class.{isClass, headOf}
 use Rattle.layout.specs.Fields.{fieldsOf, recordWord}
+use Rattle.record.specs.declared.origin.Origin.{Origin}
 use Rattle.record.specs.declared.kinds.Head.{Head}
 use Rattle.record.specs.declared.kinds.Record.{Record}
 use Rattle.rule.specs.Il.{ilRule}
-use Rattle.rule.specs.Has.{recordIl, editionsOf}
+use Rattle.rule.specs.Has.{recordClass, recordIl, editionsOf}
 use Rattle.syndrome.specs.Writing.{writeOf}
 use Rattle.syndrome.specs.declared.answer.Written.{Written}
 use Rattle.syndrome.proofs.Steps.{writeVerdict, write-unknown, write-class, write-short, write-judged, joined-taken}
@@ -23,21 +24,22 @@ use Rattle.syndrome.proofs.write.Statement.{statement}
 use Rattle.syndrome.proofs.write.Tie as tie
 
 -- a record's head, as the code has it
-own-class : {h : Head} (r : Record) {b : Bool} → h ≡ headOf r → h .own ≡ b → headOf r .own ≡ b
-own-class r same o = sym (ap (λ (x : Head). x .own) same) ∙ o
+own-class : (o : Origin) {h : Head} (r : Record) {known b : Bool} → h ≡ headOf r → known ≡ isClass o (h .class) → (h .own && known) ≡ b → recordClass o r ≡ b
+own-class o r same k b =
+    sym (ap₂ _&&_ (ap (λ (x : Head). x .own) same) (k ∙ ap (λ (x : Head). isClass o (x .class)) same)) ∙ b
 
-own-il : {h : Head} (r : Record) {long b : Bool} → h ≡ headOf r → long ≡ ilRule (h .class) (h .isv) (h .il) → long ≡ b → recordIl r ≡ b
-own-il r same l b = sym (l ∙ ap (λ (x : Head). ilRule (x .class) (x .isv) (x .il)) same) ∙ b
+own-il : (o : Origin) {h : Head} (r : Record) {long b : Bool} → h ≡ headOf r → long ≡ ilRule o (h .class) (h .isv) (h .il) → long ≡ b → recordIl o r ≡ b
+own-il o r same l b = sym (l ∙ ap (λ (x : Head). ilRule o (x .class) (x .isv) (x .il)) same) ∙ b
 
-module _ (e : ℕ) (r : Record) (k : isEdition e ≡ true) (o : headOf r .own ≡ true) (l : recordIl r ≡ true) where
+module _ (o : Origin) (e : ℕ) (r : Record) (k : isEdition e ≡ true) (w : recordClass o r ≡ true) (l : recordIl o r ≡ true) where
   -- what the code makes of a verdict that it came to
-  judged : {m : ℕ} {came verdict : Verdict} → m ≡ editionsOf r → came ≡ judgeOf e m → came ≡ verdict → writeVerdict (recordWord r) verdict ≡ writeOf e r
-  judged mask judge same = sym (write-judged e r k o l ∙ ap (writeVerdict (recordWord r)) (ap (judgeOf e) (sym mask) ∙ sym judge ∙ same))
+  judged : {m : ℕ} {came verdict : Verdict} → m ≡ editionsOf o r → came ≡ judgeOf e m → came ≡ verdict → writeVerdict (recordWord r) verdict ≡ writeOf o e r
+  judged mask judge same = sym (write-judged o e r k w l ∙ ap (writeVerdict (recordWord r)) (ap (judgeOf e) (sym mask) ∙ sym judge ∙ same))
 
-  joined : {w m : ℕ} {came : Verdict} → w ≡ joinedFrom 0 (fieldsOf r) → m ≡ editionsOf r → came ≡ judgeOf e m → came ≡ Verdict.Taken
-      → Written.Word (record { 0 = w }) ≡ writeOf e r
+  joined : {w m : ℕ} {came : Verdict} → w ≡ joinedFrom 0 (fieldsOf r) → m ≡ editionsOf o r → came ≡ judgeOf e m → came ≡ Verdict.Taken
+      → Written.Word (record { 0 = w }) ≡ writeOf o e r
   joined made mask judge same =
-      ap (λ (w : ℕ). Written.Word (record { 0 = w })) (made ∙ joined-taken e r k (ap (judgeOf e) (sym mask) ∙ sym judge ∙ same)) ∙ judged mask judge same
+      ap (λ (w : ℕ). Written.Word (record { 0 = w })) (made ∙ joined-taken o e r k (ap (judgeOf e) (sym mask) ∙ sym judge ∙ same)) ∙ judged mask judge same
 
 head-requires : tie.Need-head-requires
 head-requires c κs = search needs
@@ -48,16 +50,19 @@ known-requires c κs = search needs
 returns : tie.Need-returns
 returns c =
     let a = c .before .before .before .args in
-    writes (a .edition) (a .r) (sym (write-unknown (a .edition) (a .r) (sym (c .before .known .ensures) ∙ not-true _ (c .if1 .taken))))
+    writes (a .origin) (a .edition) (a .r) (sym (write-unknown (a .origin) (a .edition) (a .r) (sym (c .before .known .ensures) ∙ not-true _ (c .if1 .taken))))
+
+is-class-requires : tie.Need-is-class-requires
+is-class-requires c κs = search needs
 
 returns-2 : tie.Need-returns-2
 returns-2 c =
-    let known = c .before .before in
+    let known = c .before .before .before in
     let head = known .before .before in
     let a = head .before .args in
-    writes (a .edition) (a .r)
-    (sym (write-class (a .edition) (a .r) (sym (known .before .known .ensures) ∙ not-false _ (known .if1 .left))
-    (own-class (a .r) (head .head .ensures) (not-true _ (c .if2 .taken)))))
+    writes (a .origin) (a .edition) (a .r)
+    (sym (write-class (a .origin) (a .edition) (a .r) (sym (known .before .known .ensures) ∙ not-false _ (known .if1 .left))
+    (own-class (a .origin) (a .r) (head .head .ensures) (c .before .before .is-class .ensures) (not-true _ (c .if2 .taken)))))
 
 il-rule-requires : tie.Need-il-rule-requires
 il-rule-requires c κs = search needs
@@ -65,13 +70,13 @@ il-rule-requires c κs = search needs
 returns-3 : tie.Need-returns-3
 returns-3 c =
     let own = c .before .before in
-    let known = own .before .before in
+    let known = own .before .before .before in
     let head = known .before .before in
     let a = head .before .args in
-    writes (a .edition) (a .r)
-    (sym (write-short (a .edition) (a .r) (sym (known .before .known .ensures) ∙ not-false _ (known .if1 .left))
-    (own-class (a .r) (head .head .ensures) (not-false _ (own .if2 .left)))
-    (own-il (a .r) (head .head .ensures) (c .before .il-rule .ensures) (not-true _ (c .if3 .taken)))))
+    writes (a .origin) (a .edition) (a .r)
+    (sym (write-short (a .origin) (a .edition) (a .r) (sym (known .before .known .ensures) ∙ not-false _ (known .if1 .left))
+    (own-class (a .origin) (a .r) (head .head .ensures) (own .before .before .is-class .ensures) (not-false _ (own .if2 .left)))
+    (own-il (a .origin) (a .r) (head .head .ensures) (c .before .il-rule .ensures) (not-true _ (c .if3 .taken)))))
 
 editions-requires : tie.Need-editions-requires
 editions-requires c κs = search needs
@@ -93,13 +98,13 @@ returns-4 c =
     let at = c .before .before .before in
     let long = at .before .before in
     let own = long .before .before in
-    let known = own .before .before in
+    let known = own .before .before .before in
     let head = known .before .before in
     let a = head .before .args in
-    writes (a .edition) (a .r)
-    (joined (a .edition) (a .r) (sym (known .before .known .ensures) ∙ not-false _ (known .if1 .left))
-    (own-class (a .r) (head .head .ensures) (not-false _ (own .if2 .left)))
-    (own-il (a .r) (head .head .ensures) (long .before .il-rule .ensures) (not-false _ (long .if3 .left))) (c .joined .ensures) (at .before .editions .ensures)
+    writes (a .origin) (a .edition) (a .r)
+    (joined (a .origin) (a .edition) (a .r) (sym (known .before .known .ensures) ∙ not-false _ (known .if1 .left))
+    (own-class (a .origin) (a .r) (head .head .ensures) (own .before .before .is-class .ensures) (not-false _ (own .if2 .left)))
+    (own-il (a .origin) (a .r) (head .head .ensures) (long .before .il-rule .ensures) (not-false _ (long .if3 .left))) (c .joined .ensures) (at .before .editions .ensures)
     (at .judge .ensures) (c .before .enum-told .given .1))
 
 returns-5 : tie.Need-returns-5
@@ -107,13 +112,13 @@ returns-5 c =
     let at = c .before .before .before in
     let long = at .before .before in
     let own = long .before .before in
-    let known = own .before .before in
+    let known = own .before .before .before in
     let head = known .before .before in
     let a = head .before .args in
-    writes (a .edition) (a .r)
-    (judged (a .edition) (a .r) (sym (known .before .known .ensures) ∙ not-false _ (known .if1 .left))
-    (own-class (a .r) (head .head .ensures) (not-false _ (own .if2 .left)))
-    (own-il (a .r) (head .head .ensures) (long .before .il-rule .ensures) (not-false _ (long .if3 .left))) (at .before .editions .ensures) (at .judge .ensures)
+    writes (a .origin) (a .edition) (a .r)
+    (judged (a .origin) (a .edition) (a .r) (sym (known .before .known .ensures) ∙ not-false _ (known .if1 .left))
+    (own-class (a .origin) (a .r) (head .head .ensures) (own .before .before .is-class .ensures) (not-false _ (own .if2 .left)))
+    (own-il (a .origin) (a .r) (head .head .ensures) (long .before .il-rule .ensures) (not-false _ (long .if3 .left))) (at .before .editions .ensures) (at .judge .ensures)
     (c .before .refusal .given .1))
 
 pub write-spec : {M : Type 1} → statement M
@@ -123,6 +128,7 @@ write-spec =
     head-requires
     known-requires
     returns
+    is-class-requires
     returns-2
     il-rule-requires
     returns-3

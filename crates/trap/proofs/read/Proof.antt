@@ -25,16 +25,16 @@ unfolding answerOf
 returns c =
     let at = c .before .before .before .before in
     let a = at .before .args in
-    shows (a .esr) (a .edition) (a .far) (a .hpfar)
-    (c .answer-record .ensures ∙ sym (ap (λ (x : Read). answerRead (a .edition) x (a .far) (a .hpfar)) (sym (at .read .ensures .answer) ∙ c .before .before .r .given .1)))
+    shows (a .origin) (a .esr) (a .edition) (a .far) (a .hpfar)
+    (c .answer-record .ensures ∙ sym (ap (λ (x : Read). answerRead (a .origin) (a .edition) x (a .far) (a .hpfar)) (sym (at .read .ensures .answer) ∙ c .before .before .r .given .1)))
 
 returns-2 : tie.Need-returns-2
 unfolding answerOf
 returns-2 c =
     let at = c .before .before .before in
     let a = at .before .args in
-    shows (a .esr) (a .edition) (a .far) (a .hpfar)
-    (sym (ap (λ (x : Read). answerRead (a .edition) x (a .far) (a .hpfar)) (sym (at .read .ensures .answer) ∙ c .before .refusal .given .1)))
+    shows (a .origin) (a .esr) (a .edition) (a .far) (a .hpfar)
+    (sym (ap (λ (x : Read). answerRead (a .origin) (a .edition) x (a .far) (a .hpfar)) (sym (at .read .ensures .answer) ∙ c .before .refusal .given .1)))
 
 pub read-spec : {M : Type 1} → statement M
 read-spec =

@@ -3,6 +3,7 @@
 use borrow.Author.Needs.{needs}
 use mathlib.Core.Path.{_≡_, _∙_, sym, ap, ap₂}
 use Prim.Native.Nat.{ℕ}
+use Rattle.record.specs.declared.origin.Origin.{Origin}
 use Rattle.record.specs.declared.kinds.Esr.{Esr}
 use Rattle.address.specs.declared.Far.{Far}
 use Rattle.address.specs.declared.Hpfar.{Hpfar}
@@ -16,11 +17,11 @@ use Rattle.trap.proofs.Shown.{same-trap}
 use Rattle.trap.proofs.read_both.Statement.{statement}
 use Rattle.trap.proofs.read_both.Tie as tie
 
-both-shown : (first second : ℕ) (esr : Esr) (far : Far) (hpfar : Hpfar) (t s : Trap) → answerOf first esr far hpfar ≡ Answer.Shown t
-    → answerOf second esr far hpfar ≡ Answer.Shown s → Both.Shown t s ≡ bothOf first second esr far hpfar
+both-shown : (o : Origin) (first second : ℕ) (esr : Esr) (far : Far) (hpfar : Hpfar) (t s : Trap) → answerOf o first esr far hpfar ≡ Answer.Shown t
+    → answerOf o second esr far hpfar ≡ Answer.Shown s → Both.Shown t s ≡ bothOf o first second esr far hpfar
 unfolding bothOf
-both-shown first second esr far hpfar t s one other =
-    ap (Both.Shown t) (sym (same-trap first second esr far hpfar t s one other)) ∙ sym (ap₂ bothFrom one other)
+both-shown o first second esr far hpfar t s one other =
+    ap (Both.Shown t) (sym (same-trap o first second esr far hpfar t s one other)) ∙ sym (ap₂ bothFrom one other)
 
 read-requires : tie.Need-read-requires
 read-requires c κs = search needs
@@ -45,7 +46,7 @@ returns c =
     let a = c .before .before .before .before .before .before .before .before .args in
     let first = sym (c .before .before .before .before .before .before .before .read .ensures .answer) ∙ c .before .before .before .before .before .trap .given .1 in
     let second = sym (c .before .before .before .read2 .ensures .answer) ∙ c .before .other .given .1 in
-    shows-both (a .first) (a .second) (a .esr) (a .far) (a .hpfar) (both-shown (a .first) (a .second) (a .esr) (a .far) (a .hpfar) _ _ first second)
+    shows-both (a .origin) (a .first) (a .second) (a .esr) (a .far) (a .hpfar) (both-shown (a .origin) (a .first) (a .second) (a .esr) (a .far) (a .hpfar) _ _ first second)
 
 returns-2 : tie.Need-returns-2
 unfolding bothOf
@@ -53,14 +54,14 @@ returns-2 c =
     let a = c .before .before .before .before .before .before .before .before .args in
     let first = sym (c .before .before .before .before .before .before .before .read .ensures .answer) ∙ c .before .before .before .before .before .trap .given .1 in
     let second = sym (c .before .before .before .read2 .ensures .answer) ∙ c .before .refusal .given .1 in
-    shows-both (a .first) (a .second) (a .esr) (a .far) (a .hpfar) (sym (ap₂ bothFrom first second))
+    shows-both (a .origin) (a .first) (a .second) (a .esr) (a .far) (a .hpfar) (sym (ap₂ bothFrom first second))
 
 returns-3 : tie.Need-returns-3
 unfolding bothOf
 returns-3 c =
     let a = c .before .before .before .before .args in
-    shows-both (a .first) (a .second) (a .esr) (a .far) (a .hpfar)
-    (sym (ap (λ (x : Answer). bothFrom x (answerOf (a .second) (a .esr) (a .far) (a .hpfar))) (sym (c .before .before .before .read .ensures .answer) ∙ c .before .refusal2 .given .1)))
+    shows-both (a .origin) (a .first) (a .second) (a .esr) (a .far) (a .hpfar)
+    (sym (ap (λ (x : Answer). bothFrom x (answerOf (a .origin) (a .second) (a .esr) (a .far) (a .hpfar))) (sym (c .before .before .before .read .ensures .answer) ∙ c .before .refusal2 .given .1)))
 
 pub read-both-spec : {M : Type 1} → statement M
 read-both-spec =

@@ -2,6 +2,7 @@ use borrow.Author.Needs.{needs}
 use mathlib.Core.Path.{_≡_, sym, ap, _∙_}
 use Prim.Native.Nat.{ℕ}
 use Rattle.line.specs.declared.Line.{Line}
+use Rattle.record.specs.declared.origin.Origin.{Origin}
 use Rattle.syndrome.specs.Reading.{readOf}
 use Rattle.syndrome.specs.declared.answer.Read.{Read}
 use Rattle.trapread.specs.Answer.{readText, answerText}
@@ -39,7 +40,7 @@ append-requires-2 : tie.Need-append-requires-2
 append-requires-2 c κs = search needs
 
 -- the line asks, and the reader's answer is known
-told : {line : Line} {answer known : Read} {edition word : ℕ} → line ≡ Line.Question edition word → answer ≡ readOf edition (record { 0 = word }) → answer ≡ known
+told : {line : Line} {answer known : Read} {edition word : ℕ} → line ≡ Line.Question edition word → answer ≡ readOf Origin.AArch32 edition (record { 0 = word }) → answer ≡ known
     → answerText line ≡ readText known
 told q a k = ap answerText q ∙ ap readText (sym a ∙ k)
 

@@ -6,6 +6,7 @@ use mathlib.Core.Bool.{Bool, true, false}
 use Prim.Native.Nat.{ℕ}
 use borrow.Author.Tests.{eq-eqb, ne-eqb, not-true, not-false}
 use lib.Dec.{eqb}
+use Rattle.record.specs.declared.origin.Origin.{Origin}
 use Rattle.record.specs.declared.kinds.Record.{Record as Long}
 use Rattle.rule.specs.Has.{editionsOf as longEditions}
 use Rattle.widen.specs.declared.Widened.{Widened}
@@ -62,7 +63,7 @@ returns-4 c =
     let k = sym (known .before .is-mode .ensures) ∙ not-false _ (known .if1 .left) in
     let s = mask (short .before .editions .ensures) (ne-eqb _ _ (short .if2 .left)) in
     let p = sym (plain .before .uses-pc .ensures) ∙ plain .if3 .left in
-    let long = c .before .editions2 .ensures ∙ ap longEditions (c .before .before .long-record .ensures) in
+    let long = c .before .editions2 .ensures ∙ ap (longEditions Origin.AArch32) (c .before .before .long-record .ensures) in
     widens (a .mode) (a .r) (sym (widen-long (a .mode) (a .r) k s p (mask long (eq-eqb _ _ (c .if4 .taken)))))
 
 returns-5 : tie.Need-returns-5
@@ -74,7 +75,7 @@ returns-5 c =
     let k = sym (known .before .is-mode .ensures) ∙ not-false _ (known .if1 .left) in
     let s = mask (short .before .editions .ensures) (ne-eqb _ _ (short .if2 .left)) in
     let p = sym (plain .before .uses-pc .ensures) ∙ plain .if3 .left in
-    let long = c .before .editions2 .ensures ∙ ap longEditions (c .before .before .long-record .ensures) in
+    let long = c .before .editions2 .ensures ∙ ap (longEditions Origin.AArch32) (c .before .before .long-record .ensures) in
     widens (a .mode) (a .r)
     (ap Widened.Long (c .before .before .long-record .ensures)
     ∙ sym (widen-given (a .mode) (a .r) k s p (mask long (ne-eqb _ _ (c .if4 .left)))))

@@ -5,6 +5,7 @@ use Prim.Native.Nat.{ℕ}
 use borrow.Author.Tests.{not-true, not-false, eq-eqb, ne-eqb}
 use lib.Dec.{eqb}
 use borrow.Author.Needs.{needs}
+use Rattle.record.specs.declared.origin.Origin.{Origin}
 use Rattle.record.specs.declared.kinds.Record.{Record}
 use Rattle.rule.specs.Has.{editionsOf}
 use Rattle.status.specs.Sound.{sound}
@@ -15,7 +16,7 @@ use Rattle.device.proofs.access.finish.Statement.{statement}
 use Rattle.device.proofs.access.finish.Tie as tie
 
 -- the test of the mask is the definition's
-none : (r : Record) {mask : ℕ} {b : Bool} → mask ≡ editionsOf r → eqb mask 0 ≡ b → had r ≡ not b
+none : (r : Record) {mask : ℕ} {b : Bool} → mask ≡ editionsOf Origin.AArch32 r → eqb mask 0 ≡ b → had r ≡ not b
 none r p q = ap not (ap (λ (m : ℕ). eqb m 0) (sym p) ∙ q)
 
 passed-had : (c : tie.Else1) → had (c .before .before .args .what) ≡ true

@@ -96,6 +96,12 @@ enum-known-r-14 c = search needs
 serror-requires : tie.Need-serror-requires
 serror-requires c κs = search needs
 
+enum-known-r-15 : tie.Need-enum-known-r-15
+enum-known-r-15 c = search needs
+
+system-requires : tie.Need-system-requires
+system-requires c κs = search needs
+
 returns : tie.Need-returns
 returns c = at-arm joinedOf (c .plain .ensures) (c .before .before .r .given .1)
 
@@ -138,6 +144,9 @@ returns-13 c = at-arm joinedOf (c .watchpoint .ensures) (c .before .before .r13 
 returns-14 : tie.Need-returns-14
 returns-14 c = at-arm joinedOf (c .serror .ensures) (c .before .before .r14 .given .1)
 
+returns-15 : tie.Need-returns-15
+returns-15 c = at-arm joinedOf (c .system .ensures) (c .before .before .r15 .given .1)
+
 pub joined-spec : {M : Type 1} → statement M
 joined-spec =
     tie.close
@@ -170,6 +179,8 @@ joined-spec =
     watchpoint-requires
     enum-known-r-14
     serror-requires
+    enum-known-r-15
+    system-requires
     returns
     returns-2
     returns-3
@@ -183,4 +194,5 @@ joined-spec =
     returns-11
     returns-12
     returns-13
-    returns-14)
+    returns-14
+    returns-15)

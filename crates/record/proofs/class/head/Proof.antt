@@ -109,6 +109,12 @@ enum-known-r-14 c = search needs
 without-isv-requires-13 : tie.Need-without-isv-requires-13
 without-isv-requires-13 c κs = search needs
 
+enum-known-r-15 : tie.Need-enum-known-r-15
+enum-known-r-15 c = search needs
+
+without-isv-requires-14 : tie.Need-without-isv-requires-14
+without-isv-requires-14 c κs = search needs
+
 returns : tie.Need-returns
 returns c = at-arm headOf (with-own (c .without-isv .ensures) (c .before .plain-class .ensures)) (c .before .before .before .r .given .1)
 
@@ -151,6 +157,9 @@ returns-13 c = at-arm headOf (c .without-isv12 .ensures) (c .before .before .r13
 returns-14 : tie.Need-returns-14
 returns-14 c = at-arm headOf (c .without-isv13 .ensures) (c .before .before .r14 .given .1)
 
+returns-15 : tie.Need-returns-15
+returns-15 c = at-arm headOf (c .without-isv14 .ensures) (c .before .before .r15 .given .1)
+
 pub head-spec : {M : Type 1} → statement M
 head-spec =
     tie.close
@@ -187,6 +196,8 @@ head-spec =
     without-isv-requires-12
     enum-known-r-14
     without-isv-requires-13
+    enum-known-r-15
+    without-isv-requires-14
     returns
     returns-2
     returns-3
@@ -200,4 +211,5 @@ head-spec =
     returns-11
     returns-12
     returns-13
-    returns-14)
+    returns-14
+    returns-15)

@@ -1,13 +1,33 @@
--- `record::class::is_class` meets its contract: the classes are tested in the order of the list.
+-- `record::class::is_class` meets its contract: the origin's own list is asked.
 -- Assumes nothing.
-use mathlib.Core.Bool.{false}
-use Rattle.bits.proofs.Among.{among-after}
-use Rattle.record.specs.Class.{classes}
+use borrow.Author.Needs.{needs}
+use mathlib.Core.Path.{_∙_, sym, ap}
+use mathlib.Core.Bool.{Bool, cond}
+use Rattle.bits.specs.Among.{among}
+use Rattle.record.specs.Class.{aarch32Classes, aarch64Classes}
 use Rattle.record.proofs.class.is_class.Statement.{statement}
 use Rattle.record.proofs.class.is_class.Tie as tie
 
+from-aarch64-requires : tie.Need-from-aarch64-requires
+from-aarch64-requires c κs = search needs
+
+aarch64-class-requires : tie.Need-aarch64-class-requires
+aarch64-class-requires c κs = search needs
+
+aarch32-class-requires : tie.Need-aarch32-class-requires
+aarch32-class-requires c κs = search needs
+
 returns : tie.Need-returns
-returns c = among-after false classes (c .args .class)
+returns c =
+    let at = c .before .before in
+    c .aarch64-class .ensures
+    ∙ sym (ap (λ (b : Bool). among (cond b aarch64Classes aarch32Classes) (at .before .args .class)) (sym (at .from-aarch64 .ensures) ∙ c .before .if1 .taken))
+
+returns-2 : tie.Need-returns-2
+returns-2 c =
+    let at = c .before .before in
+    c .aarch32-class .ensures
+    ∙ sym (ap (λ (b : Bool). among (cond b aarch64Classes aarch32Classes) (at .before .args .class)) (sym (at .from-aarch64 .ensures) ∙ c .before .if1 .left))
 
 pub is-class-spec : {M : Type 1} → statement M
-is-class-spec = tie.close (tie.spec returns)
+is-class-spec = tie.close (tie.spec from-aarch64-requires aarch64-class-requires aarch32-class-requires returns returns-2)

@@ -3,10 +3,11 @@
 use borrow.Author.Needs.{needs}
 use mathlib.Core.Path.{_≡_, refl, _∙_, ap}
 use mathlib.Core.List.{List, [], _∷_}
+use mathlib.Core.Logic.{inl, inr}
 use borrow.Author.Tests.{ne-eqb}
 use Prim.Native.Nat.{ℕ}
 use Rattle.bits.proofs.Among.{Each, OfArm, arm-each, not-of-arm}
-use Rattle.record.specs.Split.{plainAt, wfxAt, mcrAt, mcrrAt, ldcAt, simdAt, callAt, smcAt, instructionAbortAt, dataAbortAt, debugAt, stepAt, watchpointAt, serrorAt, recordOf}
+use Rattle.record.specs.Split.{plainAt, wfxAt, mcrAt, mcrrAt, ldcAt, simdAt, callAt, smcAt, instructionAbortAt, dataAbortAt, debugAt, stepAt, watchpointAt, serrorAt, systemAt, recordOf}
 use Rattle.record.specs.declared.kinds.Record.{Record}
 use Rattle.record.proofs.split.record_of.Statement.{statement}
 use Rattle.record.proofs.split.record_of.Tie as tie
@@ -57,6 +58,9 @@ watchpoint-at-requires c κs = search needs
 serror-at-requires : tie.Need-serror-at-requires
 serror-at-requires c κs = search needs
 
+system-at-requires : tie.Need-system-at-requires
+system-at-requires c κs = search needs
+
 plain-at-requires : tie.Need-plain-at-requires
 plain-at-requires c κs = search needs
 
@@ -94,13 +98,13 @@ returns-6 : tie.Need-returns-6
 unfolding recordOf
 returns-6 c =
     let w = c .before .before .args .word in
-    ap Record.Call (c .call-at .ensures) ∙ at-class (λ x. Record.Call (callAt x w)) w 0x11 (0x38 ∷ []) (refl, (refl, tt)) (c .before .match .keys6)
+    ap Record.Call (c .call-at .ensures) ∙ at-class (λ x. Record.Call (callAt x w)) w 0x11 (0x15 ∷ 0x17 ∷ 0x38 ∷ []) (refl, (refl, (refl, (refl, tt)))) (c .before .match .keys6)
 
 returns-7 : tie.Need-returns-7
 unfolding recordOf
 returns-7 c =
     let w = c .before .before .args .word in
-    ap Record.Call (c .call-at2 .ensures) ∙ at-class (λ x. Record.Call (callAt x w)) w 0x12 [] (refl, tt) (c .before .match .keys7)
+    ap Record.Call (c .call-at2 .ensures) ∙ at-class (λ x. Record.Call (callAt x w)) w 0x12 (0x16 ∷ []) (refl, (refl, tt)) (c .before .match .keys7)
 
 returns-8 : tie.Need-returns-8
 unfolding recordOf
@@ -147,24 +151,33 @@ returns-14 c =
 returns-15 : tie.Need-returns-15
 unfolding recordOf
 returns-15 c =
+    let w = c .before .before .args .word in
+    ap Record.System (c .system-at .ensures) ∙ at-class (λ x. Record.System (systemAt w)) w 0x18 [] (refl, tt) (c .before .match .keys15)
+
+returns-16 : tie.Need-returns-16
+unfolding recordOf
+returns-16 c =
     let class = c .before .before .args .class in
     let n = c .before .match .rest in
+    let hvc = n .0 .0 .0 .0 .0 .0 .0 .0 .1 in
     ap Record.Plain (c .plain-at .ensures)
     ∙ simp (
-      ne-eqb class 0x01 (n .0 .0 .0 .0 .0 .0 .0 .0 .0 .0 .0 .0 .0 .1),
-      not-of-arm 0x03 (0x05 ∷ 0x08 ∷ []) class (n .0 .0 .0 .0 .0 .0 .0 .0 .0 .0 .0 .0 .1),
-      not-of-arm 0x04 (0x0C ∷ []) class (n .0 .0 .0 .0 .0 .0 .0 .0 .0 .0 .0 .1),
-      ne-eqb class 0x06 (n .0 .0 .0 .0 .0 .0 .0 .0 .0 .0 .1),
-      ne-eqb class 0x07 (n .0 .0 .0 .0 .0 .0 .0 .0 .0 .1),
-      not-of-arm 0x11 (0x38 ∷ []) class (n .0 .0 .0 .0 .0 .0 .0 .0 .1),
-      ne-eqb class 0x12 (n .0 .0 .0 .0 .0 .0 .0 .1),
-      ne-eqb class 0x13 (n .0 .0 .0 .0 .0 .0 .1),
-      ne-eqb class 0x20 (n .0 .0 .0 .0 .0 .1),
-      ne-eqb class 0x24 (n .0 .0 .0 .0 .1),
-      not-of-arm 0x30 (0x3A ∷ []) class (n .0 .0 .0 .1),
-      ne-eqb class 0x32 (n .0 .0 .1),
-      ne-eqb class 0x34 (n .0 .1),
-      ne-eqb class 0x2F (n .1),
+      ne-eqb class 0x01 (n .0 .0 .0 .0 .0 .0 .0 .0 .0 .0 .0 .0 .0 .0 .1),
+      not-of-arm 0x03 (0x05 ∷ 0x08 ∷ []) class (n .0 .0 .0 .0 .0 .0 .0 .0 .0 .0 .0 .0 .0 .1),
+      not-of-arm 0x04 (0x0C ∷ []) class (n .0 .0 .0 .0 .0 .0 .0 .0 .0 .0 .0 .0 .1),
+      ne-eqb class 0x06 (n .0 .0 .0 .0 .0 .0 .0 .0 .0 .0 .0 .1),
+      ne-eqb class 0x07 (n .0 .0 .0 .0 .0 .0 .0 .0 .0 .0 .1),
+      not-of-arm 0x11 (0x15 ∷ 0x17 ∷ 0x38 ∷ []) class (n .0 .0 .0 .0 .0 .0 .0 .0 .0 .1),
+      ne-eqb class 0x12 (λ e. hvc (inl e)),
+      ne-eqb class 0x16 (λ e. hvc (inr e)),
+      ne-eqb class 0x13 (n .0 .0 .0 .0 .0 .0 .0 .1),
+      ne-eqb class 0x20 (n .0 .0 .0 .0 .0 .0 .1),
+      ne-eqb class 0x24 (n .0 .0 .0 .0 .0 .1),
+      not-of-arm 0x30 (0x3A ∷ []) class (n .0 .0 .0 .0 .1),
+      ne-eqb class 0x32 (n .0 .0 .0 .1),
+      ne-eqb class 0x34 (n .0 .0 .1),
+      ne-eqb class 0x2F (n .0 .1),
+      ne-eqb class 0x18 (n .1),
     )
 
 pub record-of-spec : {M : Type 1} → statement M
@@ -185,6 +198,7 @@ record-of-spec =
     step-at-requires
     watchpoint-at-requires
     serror-at-requires
+    system-at-requires
     plain-at-requires
     returns
     returns-2
@@ -200,4 +214,5 @@ record-of-spec =
     returns-12
     returns-13
     returns-14
-    returns-15)
+    returns-15
+    returns-16)

@@ -52,6 +52,9 @@ enum-told-10 c = search needs
 enum-known-r-4 : tie.Need-enum-known-r-4
 enum-known-r-4 c = search needs
 
+enum-told-11 : tie.Need-enum-told-11
+enum-told-11 c = search needs
+
 returns : tie.Need-returns
 returns c = search needs
 
@@ -97,6 +100,9 @@ returns-14 c = search needs
 returns-15 : tie.Need-returns-15
 returns-15 c = at-arm sortOf refl (c .before .r4 .given .1)
 
+returns-16 : tie.Need-returns-16
+returns-16 c = search needs
+
 pub sort-spec : {M : Type 1} → statement M
 sort-spec =
     tie.close
@@ -115,6 +121,7 @@ sort-spec =
     enum-told-9
     enum-told-10
     enum-known-r-4
+    enum-told-11
     returns
     returns-2
     returns-3
@@ -129,4 +136,5 @@ sort-spec =
     returns-12
     returns-13
     returns-14
-    returns-15)
+    returns-15
+    returns-16)

@@ -5,8 +5,9 @@ use mathlib.Core.Path.{_≡_, _∙_, sym, ap, ap₂}
 use mathlib.Core.Bool.{Bool, cond, _&&_}
 use Rattle.bits.specs.Layout.{fitting}
 use Rattle.edition.specs.Mask.{maskOf}
-use Rattle.record.specs.Class.{headOf}
+use Rattle.record.specs.Class.{isClass, headOf}
 use Rattle.layout.specs.Fields.{fieldsOf}
+use Rattle.record.specs.declared.origin.Origin.{Origin}
 use Rattle.record.specs.declared.kinds.Head.{Head}
 use Rattle.record.specs.declared.kinds.Record.{Record}
 use Rattle.rule.specs.Il.{ilRule}
@@ -18,17 +19,24 @@ use Rattle.rule.proofs.code.editions.Statement.{statement}
 use Rattle.rule.proofs.code.editions.Tie as tie
 
 -- the masks of the rules of the edition, kept where the other rules hold
-kept : (r : Record) (h : Head) {long allowed holds : Bool} → h ≡ headOf r → long ≡ ilRule (h .class) (h .isv) (h .il)
-    → allowed ≡ (fitting (fieldsOf r) && layoutRule r) → (h .own && long && allowed) ≡ holds
-    → cond holds (maskOf (λ e. editionRule e r)) 0 ≡ editionsOf r
+kept : (o : Origin) (r : Record) (h : Head) {known long allowed holds : Bool} → h ≡ headOf r → known ≡ isClass o (h .class)
+    → long ≡ ilRule o (h .class) (h .isv) (h .il) → allowed ≡ (fitting (fieldsOf r) && layoutRule o r) → (h .own && known && long && allowed) ≡ holds
+    → cond holds (maskOf (λ e. editionRule e r)) 0 ≡ editionsOf o r
 unfolding has lawful
-kept r h same l a decided =
+kept o r h same k l a decided =
     ap (λ (b : Bool). cond b (maskOf (λ e. editionRule e r)) 0)
-    (sym decided ∙ ap₂ _&&_ (ap₂ _&&_ (ap (λ (x : Head). x .own) same) (l ∙ ap (λ (x : Head). ilRule (x .class) (x .isv) (x .il)) same)) a)
-    ∙ edition-mask (lawful r) (λ e. editionRule e r)
+    (sym decided
+    ∙ ap₂ _&&_
+    (ap₂ _&&_ (ap₂ _&&_ (ap (λ (x : Head). x .own) same) (k ∙ ap (λ (x : Head). isClass o (x .class)) same))
+    (l ∙ ap (λ (x : Head). ilRule o (x .class) (x .isv) (x .il)) same))
+    a)
+    ∙ edition-mask (lawful o r) (λ e. editionRule e r)
 
 head-requires : tie.Need-head-requires
 head-requires c κs = search needs
+
+is-class-requires : tie.Need-is-class-requires
+is-class-requires c κs = search needs
 
 il-rule-requires : tie.Need-il-rule-requires
 il-rule-requires c κs = search needs
@@ -42,17 +50,30 @@ edition-rule-requires c κs = search needs
 returns : tie.Need-returns
 returns c =
     let at = c .before .before in
-    let il = at .before .before in
+    let il = at .before in
+    let class = il .before .before in
+    let head = class .before in
+    let a = head .before .args in
     c .edition-rule .ensures
-    ∙ kept (il .before .before .args .r) (il .before .head .result) (il .before .head .ensures) (il .il-rule .ensures) (at .layout-rule .ensures) (c .before .if1 .taken)
+    ∙ kept (a .origin) (a .r) (head .head .result) (head .head .ensures) (class .is-class .ensures) (il .il-rule .ensures) (at .layout-rule .ensures) (c .before .if1 .taken)
 
 returns-2 : tie.Need-returns-2
 returns-2 c =
     let at = c .before in
-    let il = at .before .before in
-    kept (il .before .before .args .r) (il .before .head .result) (il .before .head .ensures) (il .il-rule .ensures) (at .layout-rule .ensures) (c .if1 .left)
+    let il = at .before in
+    let class = il .before .before in
+    let head = class .before in
+    let a = head .before .args in
+    kept (a .origin) (a .r) (head .head .result) (head .head .ensures) (class .is-class .ensures) (il .il-rule .ensures) (at .layout-rule .ensures) (c .if1 .left)
 
 pub editions-spec : {M : Type 1} → statement M
 editions-spec =
     tie.close
-    (tie.spec head-requires il-rule-requires layout-rule-requires edition-rule-requires returns returns-2)
+    (tie.spec
+    head-requires
+    is-class-requires
+    il-rule-requires
+    layout-rule-requires
+    edition-rule-requires
+    returns
+    returns-2)

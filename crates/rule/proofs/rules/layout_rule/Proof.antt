@@ -6,13 +6,14 @@ use mathlib.Core.Bool.{Bool, _&&_, and-true}
 use Rattle.bits.specs.Layout.{fitting}
 use Rattle.layout.specs.Fields.{fieldsOf}
 use Rattle.rule.specs.Rule.{layoutRule}
+use Rattle.record.specs.declared.origin.Origin.{Origin}
 use Rattle.record.specs.declared.kinds.Record.{Record}
 use Rattle.bits.proofs.Arms.{at-arm}
 use Rattle.rule.proofs.rules.layout_rule.Statement.{statement}
 use Rattle.rule.proofs.rules.layout_rule.Tie as tie
 
-abbrev allowedOf : Record → Bool
-allowedOf r = fitting (fieldsOf r) && layoutRule r
+abbrev allowedOf : Origin → Record → Bool
+allowedOf o r = fitting (fieldsOf r) && layoutRule o r
 
 enum-known-r : tie.Need-enum-known-r
 enum-known-r c = search needs
@@ -98,47 +99,56 @@ enum-known-r-14 c = search needs
 serror-requires : tie.Need-serror-requires
 serror-requires c κs = search needs
 
+enum-known-r-15 : tie.Need-enum-known-r-15
+enum-known-r-15 c = search needs
+
+system-requires : tie.Need-system-requires
+system-requires c κs = search needs
+
 returns : tie.Need-returns
-returns c = at-arm allowedOf (c .plain .ensures ∙ sym (and-true _)) (c .before .before .r .given .1)
+returns c = at-arm (allowedOf _) (c .plain .ensures ∙ sym (and-true _)) (c .before .before .r .given .1)
 
 returns-2 : tie.Need-returns-2
-returns-2 c = at-arm allowedOf (c .wfx .ensures) (c .before .before .r2 .given .1)
+returns-2 c = at-arm (allowedOf _) (c .wfx .ensures) (c .before .before .r2 .given .1)
 
 returns-3 : tie.Need-returns-3
-returns-3 c = at-arm allowedOf (c .mcr .ensures) (c .before .before .r3 .given .1)
+returns-3 c = at-arm (allowedOf _) (c .mcr .ensures) (c .before .before .r3 .given .1)
 
 returns-4 : tie.Need-returns-4
-returns-4 c = at-arm allowedOf (c .mcrr .ensures) (c .before .before .r4 .given .1)
+returns-4 c = at-arm (allowedOf _) (c .mcrr .ensures) (c .before .before .r4 .given .1)
 
 returns-5 : tie.Need-returns-5
-returns-5 c = at-arm allowedOf (c .ldc .ensures) (c .before .before .r5 .given .1)
+returns-5 c = at-arm (allowedOf _) (c .ldc .ensures) (c .before .before .r5 .given .1)
 
 returns-6 : tie.Need-returns-6
-returns-6 c = at-arm allowedOf (c .simd .ensures) (c .before .before .r6 .given .1)
+returns-6 c = at-arm (allowedOf _) (c .simd .ensures) (c .before .before .r6 .given .1)
 
 returns-7 : tie.Need-returns-7
-returns-7 c = at-arm allowedOf (c .call .ensures) (c .before .before .r7 .given .1)
+returns-7 c = at-arm (allowedOf _) (c .call .ensures) (c .before .before .r7 .given .1)
 
 returns-8 : tie.Need-returns-8
-returns-8 c = at-arm allowedOf (c .smc .ensures) (c .before .before .r8 .given .1)
+returns-8 c = at-arm (allowedOf _) (c .smc .ensures) (c .before .before .r8 .given .1)
 
 returns-9 : tie.Need-returns-9
-returns-9 c = at-arm allowedOf (c .instruction-abort .ensures) (c .before .before .r9 .given .1)
+returns-9 c = at-arm (allowedOf _) (c .instruction-abort .ensures) (c .before .before .r9 .given .1)
 
 returns-10 : tie.Need-returns-10
-returns-10 c = at-arm allowedOf (c .data-abort .ensures) (c .before .before .r10 .given .1)
+returns-10 c = at-arm (allowedOf _) (c .data-abort .ensures) (c .before .before .r10 .given .1)
 
 returns-11 : tie.Need-returns-11
-returns-11 c = at-arm allowedOf (c .debug .ensures ∙ sym (and-true _)) (c .before .before .r11 .given .1)
+returns-11 c = at-arm (allowedOf _) (c .debug .ensures ∙ sym (and-true _)) (c .before .before .r11 .given .1)
 
 returns-12 : tie.Need-returns-12
-returns-12 c = at-arm allowedOf (c .step .ensures) (c .before .before .r12 .given .1)
+returns-12 c = at-arm (allowedOf _) (c .step .ensures) (c .before .before .r12 .given .1)
 
 returns-13 : tie.Need-returns-13
-returns-13 c = at-arm allowedOf (c .watchpoint .ensures) (c .before .before .r13 .given .1)
+returns-13 c = at-arm (allowedOf _) (c .watchpoint .ensures) (c .before .before .r13 .given .1)
 
 returns-14 : tie.Need-returns-14
-returns-14 c = at-arm allowedOf (c .serror .ensures) (c .before .before .r14 .given .1)
+returns-14 c = at-arm (allowedOf _) (c .serror .ensures) (c .before .before .r14 .given .1)
+
+returns-15 : tie.Need-returns-15
+returns-15 c = at-arm (allowedOf _) (c .system .ensures ∙ sym (and-true _)) (c .before .before .r15 .given .1)
 
 pub layout-rule-spec : {M : Type 1} → statement M
 layout-rule-spec =
@@ -172,6 +182,8 @@ layout-rule-spec =
     watchpoint-requires
     enum-known-r-14
     serror-requires
+    enum-known-r-15
+    system-requires
     returns
     returns-2
     returns-3
@@ -185,4 +197,5 @@ layout-rule-spec =
     returns-11
     returns-12
     returns-13
-    returns-14)
+    returns-14
+    returns-15)

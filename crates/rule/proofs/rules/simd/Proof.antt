@@ -8,11 +8,11 @@ use Rattle.layout.specs.Fields.{simdFields}
 use Rattle.rule.proofs.rules.simd.Statement.{statement}
 use Rattle.rule.proofs.rules.simd.Tie as tie
 
-condition-rule-requires : tie.Need-condition-rule-requires
-condition-rule-requires c κs = search needs
+condition-from-requires : tie.Need-condition-from-requires
+condition-from-requires c κs = search needs
 
 returns : tie.Need-returns
-returns c = ap₂ _&&_ (fitting-after true (simdFields (c .before .before .args .r))) (c .condition-rule .ensures)
+returns c = ap₂ _&&_ (fitting-after true (simdFields (c .before .before .args .r))) (c .condition-from .ensures)
 
 pub simd-spec : {M : Type 1} → statement M
-simd-spec = tie.close (tie.spec condition-rule-requires returns)
+simd-spec = tie.close (tie.spec condition-from-requires returns)

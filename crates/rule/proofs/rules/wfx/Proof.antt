@@ -8,11 +8,11 @@ use Rattle.layout.specs.Fields.{wfxFields}
 use Rattle.rule.proofs.rules.wfx.Statement.{statement}
 use Rattle.rule.proofs.rules.wfx.Tie as tie
 
-condition-rule-requires : tie.Need-condition-rule-requires
-condition-rule-requires c κs = search needs
+condition-from-requires : tie.Need-condition-from-requires
+condition-from-requires c κs = search needs
 
 returns : tie.Need-returns
-returns c = ap₂ _&&_ (fitting-after true (wfxFields (c .before .before .args .r))) (c .condition-rule .ensures)
+returns c = ap₂ _&&_ (fitting-after true (wfxFields (c .before .before .args .r))) (c .condition-from .ensures)
 
 pub wfx-spec : {M : Type 1} → statement M
-wfx-spec = tie.close (tie.spec condition-rule-requires returns)
+wfx-spec = tie.close (tie.spec condition-from-requires returns)

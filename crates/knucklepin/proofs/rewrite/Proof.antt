@@ -1,11 +1,11 @@
--- `knucklepin::knucklepin_rewrite` meets its contract: each arm hands on the writer's word, or all ones.
+-- `knucklepin::rewrite` meets its contract: each arm hands on the writer's word, or all ones.
 -- Assumes nothing.
 use borrow.Author.Needs.{needs}
 use mathlib.Core.Path.{refl, _∙_, sym}
 use Rattle.bits.proofs.Arms.{at-arm}
 use Rattle.knucklepin.specs.Packed.{wordOr, rewrittenFrom}
-use Rattle.knucklepin.proofs.knucklepin_rewrite.Statement.{statement}
-use Rattle.knucklepin.proofs.knucklepin_rewrite.Tie as tie
+use Rattle.knucklepin.proofs.rewrite.Statement.{statement}
+use Rattle.knucklepin.proofs.rewrite.Tie as tie
 
 read-requires : tie.Need-read-requires
 read-requires c κs = search needs
@@ -28,23 +28,23 @@ enum-told-2 c = search needs
 returns : tie.Need-returns
 returns c =
     let a = c .before .before .before .before .before .before .before .before .args in
-    at-arm (rewrittenFrom (a .writer))
+    at-arm (rewrittenFrom (a .origin) (a .writer))
     (at-arm wordOr refl (sym (c .before .before .before .write .ensures .answer) ∙ c .before .esr .given .1))
     (sym (c .before .before .before .before .before .before .before .read .ensures .answer) ∙ c .before .before .before .before .before .r .given .1)
 
 returns-2 : tie.Need-returns-2
 returns-2 c =
     let a = c .before .before .before .before .before .before .before .args in
-    at-arm (rewrittenFrom (a .writer)) (at-arm wordOr refl (sym (c .before .before .write .ensures .answer) ∙ c .enum-told .given .1))
+    at-arm (rewrittenFrom (a .origin) (a .writer)) (at-arm wordOr refl (sym (c .before .before .write .ensures .answer) ∙ c .enum-told .given .1))
     (sym (c .before .before .before .before .before .before .read .ensures .answer) ∙ c .before .before .before .before .r .given .1)
 
 returns-3 : tie.Need-returns-3
 returns-3 c =
     let a = c .before .before .before .args in
-    at-arm (rewrittenFrom (a .writer)) refl (sym (c .before .before .read .ensures .answer) ∙ c .enum-told2 .given .1)
+    at-arm (rewrittenFrom (a .origin) (a .writer)) refl (sym (c .before .before .read .ensures .answer) ∙ c .enum-told2 .given .1)
 
-pub knucklepin-rewrite-spec : {M : Type 1} → statement M
-knucklepin-rewrite-spec =
+pub rewrite-spec : {M : Type 1} → statement M
+rewrite-spec =
     tie.close
     (tie.spec
     read-requires

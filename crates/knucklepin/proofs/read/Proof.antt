@@ -1,11 +1,11 @@
--- `knucklepin::knucklepin_read` meets its contract: each arm packs the reader's answer.
+-- `knucklepin::read` meets its contract: each arm packs the reader's answer.
 -- Assumes nothing.
 use borrow.Author.Needs.{needs}
 use mathlib.Core.Path.{refl, _∙_, sym}
 use Rattle.bits.proofs.Arms.{at-arm}
 use Rattle.knucklepin.specs.Packed.{packedAnswer}
-use Rattle.knucklepin.proofs.knucklepin_read.Statement.{statement}
-use Rattle.knucklepin.proofs.knucklepin_read.Tie as tie
+use Rattle.knucklepin.proofs.read.Statement.{statement}
+use Rattle.knucklepin.proofs.read.Tie as tie
 
 read-requires : tie.Need-read-requires
 read-requires c κs = search needs
@@ -25,7 +25,7 @@ returns c = at-arm packedAnswer refl (sym (c .before .before .read .ensures .ans
 returns-2 : tie.Need-returns-2
 returns-2 c = at-arm packedAnswer (c .packed .ensures) (sym (c .before .before .before .before .read .ensures .answer) ∙ c .before .before .refusal .given .1)
 
-pub knucklepin-read-spec : {M : Type 1} → statement M
-knucklepin-read-spec =
+pub read-spec : {M : Type 1} → statement M
+read-spec =
     tie.close
     (tie.spec read-requires enum-told enum-known-refusal packed-requires returns returns-2)
