@@ -35,7 +35,7 @@ fn words_of_class(class: u8) -> Vec<u32> {
 /// the latter equally often.
 fn questions() -> Vec<Question> {
     let mut random = Random::seeded(5);
-    let classes: Vec<Vec<u32>> = LONG.classes().map(words_of_class).collect();
+    let classes: Vec<Vec<u32>> = LONG.every_class().map(words_of_class).collect();
     let mut questions = Vec::with_capacity(QUESTIONS);
     while questions.len() < QUESTIONS {
         let class = random.below(classes.len() as u64) as usize;

@@ -6,7 +6,7 @@ use crate::catalogue::Catalogue;
 use crate::device::{finish, Access};
 use crate::form::{Form, Record};
 use crate::guest::{inject, Fault, Injection, State};
-use crate::long::LONG;
+use crate::long::{Origin, AARCH64, LONG};
 use crate::pending::Run;
 use crate::short::SHORT;
 use crate::status::{from_spsr, is_mode, Marks};
@@ -18,28 +18,34 @@ use crate::widen::{mapped, widen, widened};
 #[derive(Clone, Debug)]
 pub enum Call {
     Read {
+        origin: Origin,
         edition: u32,
         word: u64,
     },
     Write {
+        origin: Origin,
         edition: u32,
         record: Record,
     },
     Carry {
+        origin: Origin,
         writer: u32,
         reader: u32,
         record: Record,
     },
     /// Read and written again in one edition.
     Again {
+        origin: Origin,
         edition: u32,
         word: u64,
     },
     Trap {
+        origin: Origin,
         edition: u32,
         registers: Registers,
     },
     Both {
+        origin: Origin,
         editions: [u32; 2],
         registers: Registers,
     },
@@ -154,24 +160,34 @@ impl Call {
         let name = words.next()?;
         let numbers = words.map(number).collect::<Option<Vec<u64>>>()?;
         match (name, numbers.as_slice()) {
-            (b"read", &[edition, word]) => Some(Call::Read { edition: narrow(edition)?, word }),
-            (b"write", [edition, record @ ..]) => {
-                let record = Record::from_row(&LONG, record)?;
-                Some(Call::Write { edition: narrow(*edition)?, record })
+            (b"read", &[origin, edition, word]) => {
+                let origin = Origin::from_number(origin)?;
+                Some(Call::Read { origin, edition: narrow(edition)?, word })
             }
-            (b"carry", [writer, reader, record @ ..]) => Some(Call::Carry {
+            (b"write", [origin, edition, record @ ..]) => Some(Call::Write {
+                origin: Origin::from_number(*origin)?,
+                edition: narrow(*edition)?,
+                record: Record::from_row(&LONG, record)?,
+            }),
+            (b"carry", [origin, writer, reader, record @ ..]) => Some(Call::Carry {
+                origin: Origin::from_number(*origin)?,
                 writer: narrow(*writer)?,
                 reader: narrow(*reader)?,
                 record: Record::from_row(&LONG, record)?,
             }),
-            (b"again", &[edition, word]) => Some(Call::Again { edition: narrow(edition)?, word }),
-            (b"trap", &[edition, esr, far, hpfar]) => {
-                let registers = Registers { esr, far, hpfar };
-                Some(Call::Trap { edition: narrow(edition)?, registers })
+            (b"again", &[origin, edition, word]) => {
+                let origin = Origin::from_number(origin)?;
+                Some(Call::Again { origin, edition: narrow(edition)?, word })
             }
-            (b"both", &[first, second, esr, far, hpfar]) => {
+            (b"trap", &[origin, edition, esr, far, hpfar]) => {
+                let origin = Origin::from_number(origin)?;
                 let registers = Registers { esr, far, hpfar };
-                Some(Call::Both { editions: [narrow(first)?, narrow(second)?], registers })
+                Some(Call::Trap { origin, edition: narrow(edition)?, registers })
+            }
+            (b"both", &[origin, first, second, esr, far, hpfar]) => {
+                let origin = Origin::from_number(origin)?;
+                let editions = [narrow(first)?, narrow(second)?];
+                Some(Call::Both { origin, editions, registers: Registers { esr, far, hpfar } })
             }
             (b"hread", &[edition, word]) => {
                 Some(Call::ShortRead { edition: narrow(edition)?, word: narrow(word)? })
@@ -230,17 +246,24 @@ impl Call {
     /// The line that asks the call, without its end.
     pub fn line(&self) -> String {
         let (name, numbers) = match self {
-            Call::Read { edition, word } => ("read", row![*edition, *word]),
-            Call::Write { edition, record } => ("write", [row![*edition], record.row()].concat()),
-            Call::Carry { writer, reader, record } => {
-                ("carry", [row![*writer, *reader], record.row()].concat())
+            Call::Read { origin, edition, word } => {
+                ("read", row![origin.number(), *edition, *word])
             }
-            Call::Again { edition, word } => ("again", row![*edition, *word]),
-            Call::Trap { edition, registers } => {
-                ("trap", [row![*edition], registers_row(registers)].concat())
+            Call::Write { origin, edition, record } => {
+                ("write", [row![origin.number(), *edition], record.row()].concat())
             }
-            Call::Both { editions: [first, second], registers } => {
-                ("both", [row![*first, *second], registers_row(registers)].concat())
+            Call::Carry { origin, writer, reader, record } => {
+                ("carry", [row![origin.number(), *writer, *reader], record.row()].concat())
+            }
+            Call::Again { origin, edition, word } => {
+                ("again", row![origin.number(), *edition, *word])
+            }
+            Call::Trap { origin, edition, registers } => {
+                ("trap", [row![origin.number(), *edition], registers_row(registers)].concat())
+            }
+            Call::Both { origin, editions: [first, second], registers } => {
+                let editions = row![origin.number(), *first, *second];
+                ("both", [editions, registers_row(registers)].concat())
             }
             Call::ShortRead { edition, word } => ("hread", row![*edition, *word]),
             Call::ShortWrite { edition, record } => {
@@ -274,20 +297,21 @@ impl Call {
     /// Notes the words that the answer looks up.
     fn look_up(&self, words: &mut Words) {
         match self {
-            Call::Read { edition, word } | Call::Again { edition, word } => {
-                words.long.extend(looked_up(&LONG, *edition, *word));
+            Call::Read { origin, edition, word } | Call::Again { origin, edition, word } => {
+                words.long(*origin).extend(looked_up(origin.form(), *edition, *word));
             }
-            Call::Write { record, .. }
-            | Call::Carry { record, .. }
-            | Call::Finish { record, .. } => {
-                words.long.extend(record.word());
+            Call::Write { origin, record, .. } | Call::Carry { origin, record, .. } => {
+                words.long(*origin).extend(record.word());
             }
-            Call::Trap { edition, registers } => {
-                words.long.extend(looked_up(&LONG, *edition, registers.esr));
+            Call::Finish { record, .. } => words.aarch32.extend(record.word()),
+            Call::Trap { origin, edition, registers } => {
+                words.long(*origin).extend(looked_up(origin.form(), *edition, registers.esr));
             }
             // A word that is refused before its record is looked up is so in
             // every edition that there is.
-            Call::Both { registers, .. } => words.long.extend(looked_up(&LONG, 0, registers.esr)),
+            Call::Both { origin, registers, .. } => {
+                words.long(*origin).extend(looked_up(origin.form(), 0, registers.esr));
+            }
             Call::ShortRead { edition, word } | Call::ShortAgain { edition, word } => {
                 words.short.extend(looked_up(&SHORT, *edition, u64::from(*word)));
             }
@@ -296,7 +320,7 @@ impl Call {
             }
             Call::Widen { mode, record } => {
                 words.short.extend(record.word());
-                words.long.extend(widened(*mode, record).and_then(|wide| wide.word()));
+                words.aarch32.extend(widened(*mode, record).and_then(|wide| wide.word()));
             }
             Call::Inject { .. }
             | Call::Spsr { .. }
@@ -309,21 +333,28 @@ impl Call {
     }
 
     fn answer(&self, catalogues: &Catalogues) -> Vec<u64> {
-        let Catalogues { long: catalogue, short, a32: forms } = catalogues;
+        let Catalogues { aarch32, short, a32: forms, .. } = catalogues;
         match self {
-            Call::Read { edition, word } => {
-                answered(read(catalogue, *edition, *word).map(|record| record.row()))
+            Call::Read { origin, edition, word } => {
+                let answer = read(catalogues.long(*origin), *edition, *word);
+                answered(answer.map(|record| record.row()))
             }
-            Call::Write { edition, record } => {
-                answered(write(catalogue, *edition, record).map(|word| row![word]))
+            Call::Write { origin, edition, record } => {
+                let answer = write(catalogues.long(*origin), *edition, record);
+                answered(answer.map(|word| row![word]))
             }
-            Call::Carry { writer, reader, record } => carried(catalogue, *writer, *reader, record),
-            Call::Again { edition, word } => again(catalogue, *edition, *word),
-            Call::Trap { edition, registers } => {
-                answered(read_trap(catalogue, *edition, *registers).map(|trap| trap_row(&trap)))
+            Call::Carry { origin, writer, reader, record } => {
+                carried(catalogues.long(*origin), *writer, *reader, record)
             }
-            Call::Both { editions, registers } => {
-                let both = read_both(catalogue, *editions, *registers);
+            Call::Again { origin, edition, word } => {
+                again(catalogues.long(*origin), *edition, *word)
+            }
+            Call::Trap { origin, edition, registers } => {
+                let answer = read_trap(catalogues.long(*origin), *edition, *registers);
+                answered(answer.map(|trap| trap_row(&trap)))
+            }
+            Call::Both { origin, editions, registers } => {
+                let both = read_both(catalogues.long(*origin), *editions, *registers);
                 answered(both.map(|traps| traps.each_ref().map(trap_row).concat()))
             }
             Call::ShortRead { edition, word } => {
@@ -342,7 +373,7 @@ impl Call {
                 }
             }
             Call::Widen { mode, record } => {
-                answered(widen(short, catalogue, *mode, record).map(|record| record.row()))
+                answered(widen(short, aarch32, *mode, record).map(|record| record.row()))
             }
             Call::Inject { injection, state, .. } => match inject(state, injection) {
                 Ok(after) => [row![0u8], state.changes_to(&after)].concat(),
@@ -352,7 +383,7 @@ impl Call {
                 answered(from_spsr(marks, *word).map(|status| row![status]).map_err(Refusal::plain))
             }
             Call::Finish { value, state, record, .. } => {
-                match finish(catalogue, state, record, *value) {
+                match finish(aarch32, state, record, *value) {
                     Ok((Access::Load, after)) => {
                         [row![0u8, 0u8, 0u8], state.changes_to(&after)].concat()
                     }
@@ -382,13 +413,24 @@ impl Call {
 /// The words that answers look up, by form.
 #[derive(Default)]
 struct Words {
-    long: Vec<u32>,
+    aarch32: Vec<u32>,
+    aarch64: Vec<u32>,
     short: Vec<u32>,
+}
+
+impl Words {
+    fn long(&mut self, origin: Origin) -> &mut Vec<u32> {
+        match origin {
+            Origin::AArch32 => &mut self.aarch32,
+            Origin::AArch64 => &mut self.aarch64,
+        }
+    }
 }
 
 /// What the enumeration answers for them, and the forms of A32.
 struct Catalogues {
-    long: Catalogue,
+    aarch32: Catalogue,
+    aarch64: Catalogue,
     short: Catalogue,
     a32: Vec<a32::Form>,
 }
@@ -399,8 +441,19 @@ impl Catalogues {
         for call in calls {
             call.look_up(&mut words);
         }
-        let long = Catalogue::of(&LONG, words.long);
-        Catalogues { long, short: Catalogue::of(&SHORT, words.short), a32: a32::forms() }
+        Catalogues {
+            aarch32: Catalogue::of(&LONG, words.aarch32),
+            aarch64: Catalogue::of(&AARCH64, words.aarch64),
+            short: Catalogue::of(&SHORT, words.short),
+            a32: a32::forms(),
+        }
+    }
+
+    fn long(&self, origin: Origin) -> &Catalogue {
+        match origin {
+            Origin::AArch32 => &self.aarch32,
+            Origin::AArch64 => &self.aarch64,
+        }
     }
 }
 
@@ -560,20 +613,21 @@ mod tests {
         let bad = [
             "".to_string(),
             "read".into(),
-            "read 0".into(),
-            "read 0 0 0".into(),
-            "read 0  0".into(),
-            "read 0 0 ".into(),
-            " read 0 0".into(),
-            "read 0 +1".into(),
-            "read 0 1g".into(),
-            "read 100000000 0".into(),
-            "read 0 10000000000000000".into(),
-            "reads 0 0".into(),
-            "Read 0 0".into(),
-            "write 0 0 0 2".into(),
-            "write 0 a 0".into(),
-            "write 0 0 100000000 1".into(),
+            "read 0 0".into(),
+            "read 0 0 0 0".into(),
+            "read 0 0  0".into(),
+            "read 0 0 0 ".into(),
+            " read 0 0 0".into(),
+            "read 0 0 +1".into(),
+            "read 0 0 1g".into(),
+            "read 0 100000000 0".into(),
+            "read 2 0 0".into(),
+            "read 0 0 10000000000000000".into(),
+            "reads 0 0 0".into(),
+            "Read 0 0 0".into(),
+            "write 0 0 0 0 2".into(),
+            "write 0 0 a 0".into(),
+            "write 0 0 0 100000000 1".into(),
             format!("inject 0 0 0 0 1 0{state}"),
             format!("inject 0 0 0 0 0 1{state}"),
             format!("inject 0 1 0 0 0 0{state}"),
@@ -604,17 +658,17 @@ mod tests {
         for line in bad {
             assert!(Call::parse(line.as_bytes()).is_none(), "{line}");
         }
-        assert!(Call::parse(b"read 0 0000000000000000000000001").is_some());
-        assert!(Call::parse(b"read 0 FFFFffffFFFFffff").is_some());
+        assert!(Call::parse(b"read 0 0 0000000000000000000000001").is_some());
+        assert!(Call::parse(b"read 1 0 FFFFffffFFFFffff").is_some());
     }
 
     #[test]
     fn a_call_is_parsed_back() {
         for line in [
-            "read 7 1f",
-            "write 0 0 22 1",
-            "both 0 8 1 2 3",
-            "carry 1 2 5 1 0 f",
+            "read 0 7 1f",
+            "write 1 0 0 22 1",
+            "both 0 0 8 1 2 3",
+            "carry 1 1 2 5 1 0 f",
             "widen 1f 0 22 0",
             "spsr 1 0 1 1000010",
             &format!("inject 4 2 2 8000 1 ff{}", " 0".repeat(48)),

@@ -4,24 +4,25 @@
 use crate::call::{answers, lines, text, Call};
 use crate::form::Record;
 use crate::guest::{Fault, Injection, State};
-use crate::long::LONG;
+use crate::long::{Origin, LONG};
 use crate::status::Marks;
 use crate::trap::Registers;
 
 /// A word and the answer to reading it. A case that names no edition holds in
 /// every one.
 pub struct ReadCase {
+    origin: Origin,
     edition: Option<u32>,
     word: u64,
     answer: &'static str,
 }
 
 const fn reads(word: u64, answer: &'static str) -> ReadCase {
-    ReadCase { edition: None, word, answer }
+    ReadCase { origin: Origin::AArch32, edition: None, word, answer }
 }
 
 const fn reads_in(edition: u32, word: u64, answer: &'static str) -> ReadCase {
-    ReadCase { edition: Some(edition), word, answer }
+    ReadCase { origin: Origin::AArch32, edition: Some(edition), word, answer }
 }
 
 impl ReadCase {
@@ -71,6 +72,51 @@ const READS: [ReadCase; 31] = [
     // The first line that the paper's program is given.
     reads_in(0, 0x9200_0005, "0 9 1 0 0 0 0 0 0 0 0 0 0 0 0 5"),
 ];
+
+/// The cases of request C-23, in every edition: what AArch32 refuses 3, and what
+/// AArch64 has.
+const ORIGIN_READS: [ReadCase; 30] = [
+    // SVC, HVC and SMC of AArch64, and an MSR.
+    reads(0x5600_0000, "3 0 0"),
+    reads(0x5a00_0000, "3 0 0"),
+    reads(0x5e00_0000, "3 0 0"),
+    reads(0x6200_0000, "3 0 0"),
+    reads64(0x5600_0000, "0 6 15 1 0"),
+    reads64(0x5a00_ffff, "0 6 16 1 ffff"),
+    reads64(0x5e00_0001, "0 6 17 1 1"),
+    reads64(0x5e01_0000, "5 0 0"),
+    reads64(0x6200_0000, "0 e 1 0 0 0 0 0 0 0"),
+    reads64(0x623f_ffff, "0 e 1 3 7 7 f 1f f 1"),
+    reads64(0x6202_4000, "0 e 1 0 1 1 0 0 0 0"),
+    reads64(0x6240_0000, "5 0 0"),
+    // IL 0, and classes that AArch64 lacks, with either IL.
+    reads64(0x5400_0000, "4 0 0"),
+    reads64(0x05e0_0001, "4 0 0"),
+    reads64(0x9183_0005, "4 0 0"),
+    reads64(0x4a00_0001, "3 0 0"),
+    reads64(0x4800_0001, "3 0 0"),
+    reads64(0x0fe0_0001, "3 0 0"),
+    reads64(0xea00_0022, "3 0 0"),
+    // CV is 1 and COND 1110.
+    reads64(0x07e0_0001, "0 1 1 1 e 1"),
+    reads64(0x0600_0000, "5 0 0"),
+    reads64(0x0700_0000, "5 0 0"),
+    // 64 bits into register 31; 64 bits with SF 0.
+    reads64(0x93df_8005, "0 9 1 1 3 0 1f 1 0 0 0 0 0 0 0 5"),
+    reads64(0x93c3_0005, "0 9 1 1 3 0 3 0 0 0 0 0 0 0 0 5"),
+    // A word with sign: with SF 1 alone, not a store, and not of 64 bits.
+    reads64(0x93a3_8005, "0 9 1 1 2 1 3 1 0 0 0 0 0 0 0 5"),
+    reads64(0x93a3_0005, "5 0 0"),
+    reads64(0x93a3_8045, "5 0 0"),
+    reads64(0x93e3_8005, "5 0 0"),
+    // AArch32 has neither.
+    reads(0x93df_8005, "5 0 0"),
+    reads(0x93a3_8005, "5 0 0"),
+];
+
+const fn reads64(word: u64, answer: &'static str) -> ReadCase {
+    ReadCase { origin: Origin::AArch64, edition: None, word, answer }
+}
 
 struct TrapCase {
     esr: u64,
@@ -169,22 +215,40 @@ pub struct Case {
 }
 
 pub fn cases() -> Vec<Case> {
-    let mut cases = Vec::new();
-    for case in &READS {
-        for edition in case.editions() {
-            let call = Call::Read { edition, word: case.word };
-            cases.push(Case { call, answer: case.answer.into() });
-            cases.extend(written_back(case, edition));
-        }
-    }
+    let mut cases: Vec<Case> = READS.iter().flat_map(read).collect();
     for case in &TRAPS {
         for edition in 0..LONG.editions {
             let registers = Registers { esr: case.esr, far: 0x8abc, hpfar: 0x1_2340 };
-            let call = Call::Trap { edition, registers };
+            let call = Call::Trap { origin: Origin::AArch32, edition, registers };
             cases.push(Case { call, answer: case.answer.into() });
         }
     }
     cases.extend(injections().into_iter().flat_map(injected));
+    cases
+}
+
+/// The cases of request C-23: words, and an address of 64 bits, which from AArch32
+/// is refused 8.
+pub fn cases_of_origins() -> Vec<Case> {
+    let mut cases: Vec<Case> = ORIGIN_READS.iter().flat_map(read).collect();
+    let registers = Registers { esr: 0x9200_0005, far: 0xffff_8000_0000_8abc, hpfar: 0x1_2340 };
+    for edition in 0..LONG.editions {
+        let shown = "0 9 1 0 0 0 0 0 0 0 0 0 0 0 0 5 1 ffff800000008abc 2 1234abc";
+        for (origin, answer) in [(Origin::AArch32, "8 0 0"), (Origin::AArch64, shown)] {
+            let call = Call::Trap { origin, edition, registers };
+            cases.push(Case { call, answer: answer.into() });
+        }
+    }
+    cases
+}
+
+fn read(case: &ReadCase) -> Vec<Case> {
+    let mut cases = Vec::new();
+    for edition in case.editions() {
+        let call = Call::Read { origin: case.origin, edition, word: case.word };
+        cases.push(Case { call, answer: case.answer.into() });
+        cases.extend(written_back(case, edition));
+    }
     cases
 }
 
@@ -194,9 +258,11 @@ fn written_back(case: &ReadCase, edition: u32) -> Vec<Case> {
     let number = |word| u64::from_str_radix(word, 16).expect("a hexadecimal number");
     let row: Vec<u64> = row.split(' ').map(number).collect();
     let record = Record::from_row(&LONG, &row).expect("a record");
-    let carried = Call::Carry { writer: edition, reader: edition, record: record.clone() };
+    let origin = case.origin;
+    let carried = Call::Carry { origin, writer: edition, reader: edition, record: record.clone() };
+    let written = Call::Write { origin, edition, record };
     vec![
-        Case { call: Call::Write { edition, record }, answer: format!("0 {:x}", case.word) },
+        Case { call: written, answer: format!("0 {:x}", case.word) },
         Case { call: carried, answer: format!("0 {}", case.answer) },
     ]
 }
@@ -212,7 +278,7 @@ fn injected(case: InjectionCase) -> [Case; 2] {
 
 /// The cases that this program answers otherwise than the paper.
 pub fn failures() -> Vec<String> {
-    let cases = cases();
+    let cases: Vec<Case> = cases().into_iter().chain(cases_of_origins()).collect();
     let questions: String = cases.iter().map(|case| case.call.line() + "\n").collect();
     let calls: Vec<_> = lines(questions.as_bytes()).map(Call::parse).collect();
     let answers = answers(&calls);

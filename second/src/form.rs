@@ -64,6 +64,8 @@ impl Kind {
 
 pub struct Form {
     pub kinds: &'static [Kind],
+    /// Of the kinds' classes, those that the form has.
+    pub classes: &'static [u8],
     /// How many editions there are, numbered from 0.
     pub editions: u32,
     /// Whether IL must be 1 in a class, by its ISV (false where it has none).
@@ -71,6 +73,8 @@ pub struct Form {
     /// The records of a class that an edition has. No record is in two of the
     /// families.
     pub families: fn(&'static Kind, u8, Edition) -> Vec<Family>,
+    /// How many bits a virtual address has.
+    pub address_bits: u32,
 }
 
 impl Form {
@@ -83,11 +87,21 @@ impl Form {
     }
 
     pub fn kind_of_class(&self, class: u8) -> Option<&'static Kind> {
-        self.kinds.iter().find(|kind| kind.classes.contains(&class))
+        self.kinds_here().find(|kind| self.classes_of(kind).any(|own| own == class))
     }
 
-    pub fn classes(&self) -> impl Iterator<Item = u8> + '_ {
-        self.kinds.iter().flat_map(|kind| kind.classes.iter().copied())
+    /// The classes of a kind that the form has.
+    pub fn classes_of(&self, kind: &'static Kind) -> impl Iterator<Item = u8> + '_ {
+        kind.classes.iter().copied().filter(|class| self.classes.contains(class))
+    }
+
+    /// The kinds that have a class here.
+    pub fn kinds_here(&self) -> impl Iterator<Item = &'static Kind> + '_ {
+        self.kinds.iter().filter(|kind| self.classes_of(kind).next().is_some())
+    }
+
+    pub fn every_class(&self) -> impl Iterator<Item = u8> + '_ {
+        self.kinds.iter().flat_map(|kind| self.classes_of(kind))
     }
 
     /// Hands `found` the values of every record of the class that some edition

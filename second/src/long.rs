@@ -1,10 +1,62 @@
 //! The long form: ESR words, by the layout lines of document 01 and, for the
-//! classes of request C-20, of source 001. Nothing here looks at a word.
+//! classes of request C-20, of source 001. A trap's origin makes a form of its
+//! own: the same kinds, other classes and other families. Nothing here looks at
+//! a word.
 
 use crate::edition::Edition;
 use crate::form::{bit, field, Family, Field, Form, Kind};
 
-pub static LONG: Form = Form { kinds: &KINDS, editions: 16, needs_il, families };
+/// Where a trap came from.
+#[derive(Clone, Copy, Debug, PartialEq, Eq)]
+pub enum Origin {
+    AArch32,
+    AArch64,
+}
+
+impl Origin {
+    pub fn form(self) -> &'static Form {
+        match self {
+            Origin::AArch32 => &LONG,
+            Origin::AArch64 => &AARCH64,
+        }
+    }
+
+    /// The number that a row shows.
+    pub fn number(self) -> u8 {
+        self as u8
+    }
+
+    pub fn from_number(number: u64) -> Option<Origin> {
+        [Origin::AArch32, Origin::AArch64]
+            .into_iter()
+            .find(|origin| u64::from(origin.number()) == number)
+    }
+}
+
+/// Words of a trap from AArch32.
+pub static LONG: Form = Form {
+    kinds: &KINDS,
+    classes: &[
+        0x00, 0x01, 0x03, 0x04, 0x05, 0x06, 0x07, 0x08, 0x0c, 0x0e, 0x11, 0x12, 0x13, 0x20, 0x22,
+        0x24, 0x2f, 0x30, 0x32, 0x34, 0x38, 0x3a,
+    ],
+    editions: 16,
+    needs_il,
+    families,
+    address_bits: 32,
+};
+
+/// Words of a trap from AArch64, where every instruction has 32 bits.
+pub static AARCH64: Form = Form {
+    kinds: &KINDS,
+    classes: &[
+        0x00, 0x01, 0x07, 0x0e, 0x15, 0x16, 0x17, 0x18, 0x20, 0x22, 0x24, 0x2f, 0x30, 0x32, 0x34,
+    ],
+    editions: 16,
+    needs_il: |_, _| true,
+    families: families_of_aarch64,
+    address_bits: 64,
+};
 
 pub const IL: Field = bit("IL", 25);
 pub const CV: Field = bit("CV", 24);
@@ -21,7 +73,7 @@ const WNR: Field = bit("WnR", 6);
 /// IFSC or DFSC of a debug exception.
 const DEBUG_EXCEPTION: u32 = 0b10_0010;
 
-static KINDS: [Kind; 14] = [
+static KINDS: [Kind; 15] = [
     Kind { number: 0, classes: &[0x00, 0x0e, 0x22], fixed: 0, fields: &[IL] },
     Kind { number: 1, classes: &[0x01], fixed: 0, fields: &[IL, CV, COND, bit("TI", 0)] },
     Kind {
@@ -73,7 +125,7 @@ static KINDS: [Kind; 14] = [
     Kind { number: 5, classes: &[0x07], fixed: 0, fields: &[IL, CV, COND] },
     Kind {
         number: 6,
-        classes: &[0x11, 0x12, 0x38],
+        classes: &[0x11, 0x12, 0x38, 0x15, 0x16, 0x17],
         fixed: 0,
         fields: &[IL, field("imm16", 15, 0)],
     },
@@ -113,6 +165,21 @@ static KINDS: [Kind; 14] = [
         classes: &[0x2f],
         fixed: 0,
         fields: &[IL, field("AET", 12, 10), EA, field("DFSC", 5, 0)],
+    },
+    Kind {
+        number: 14,
+        classes: &[0x18],
+        fixed: 0,
+        fields: &[
+            IL,
+            field("Op0", 21, 20),
+            field("Op2", 19, 17),
+            field("Op1", 16, 14),
+            field("CRn", 13, 10),
+            field("Rt", 9, 5),
+            field("CRm", 4, 1),
+            DIRECTION,
+        ],
     },
 ];
 
@@ -157,11 +224,26 @@ fn families(kind: &'static Kind, class: u8, edition: Edition) -> Vec<Family> {
         0x12 => vec![every],
         0x13 => calls_to_the_monitor(&every),
         0x20 => fault_statuses(&every.with("IL", [1]), edition, &fault_codes(edition)),
-        0x24 => data_aborts(&every, edition),
+        0x24 => data_aborts(&every, edition, &with_syndrome(&every)),
         0x30 | 0x3a => vec![every.with("IL", [1])],
         0x32 => steps(&every.with("IL", [1])).into(),
         0x34 => maintenance(&every.with("IL", [1])).into(),
         0x2f => errors(&every.with("IL", [1]), edition),
+        _ => vec![],
+    }
+}
+
+/// From AArch64 IL is 1 in every class.
+fn families_of_aarch64(kind: &'static Kind, class: u8, edition: Edition) -> Vec<Family> {
+    let every = Family::every(kind).with("IL", [1]);
+    match class {
+        0x00 | 0x0e | 0x15 | 0x16 | 0x17 | 0x18 | 0x22 | 0x30 => vec![every],
+        0x01 | 0x07 => vec![every.with("CV", [1]).with("COND", [0b1110])],
+        0x20 => fault_statuses(&every, edition, &fault_codes(edition)),
+        0x24 => data_aborts(&every, edition, &accesses_of_aarch64(&every)),
+        0x2f => errors(&every, edition),
+        0x32 => steps(&every).into(),
+        0x34 => maintenance(&every).into(),
         _ => vec![],
     }
 }
@@ -249,13 +331,14 @@ fn fault_statuses(family: &Family, edition: Edition, codes: &[u32]) -> Vec<Famil
     codes.iter().map(status).collect()
 }
 
-fn data_aborts(every: &Family, edition: Edition) -> Vec<Family> {
+/// Those with ISV 0, and those of the accesses with the codes that go with ISV 1.
+fn data_aborts(every: &Family, edition: Edition, accesses: &[Family]) -> Vec<Family> {
     let codes = data_fault_codes(edition);
     let mut families: Vec<Family> =
         without_syndrome(every).iter().flat_map(|f| fault_statuses(f, edition, &codes)).collect();
     for code in codes.into_iter().filter(|&code| code_may_have_isv(edition, code)) {
-        for family in with_syndrome(every) {
-            let statuses = fault_statuses(&family, edition, &[code]);
+        for family in accesses {
+            let statuses = fault_statuses(family, edition, &[code]);
             families.extend(statuses.into_iter().map(|family| family.with("S1PTW", [0])));
         }
     }
@@ -304,6 +387,18 @@ fn with_syndrome(every: &Family) -> [Family; 2] {
     [family.with("SSE", [0]).with("SAS", 0..=2), sign_extended]
 }
 
+/// ISV 1 from AArch64: any size, width and register. A load of a byte or halfword
+/// may extend the sign, and one of a word too where the register has 64 bits.
+fn accesses_of_aarch64(every: &Family) -> [Family; 3] {
+    let family = every.clone().with("ISV", [1]).with("CM", [0]);
+    let sign_extended = family.clone().with("SSE", [1]).with("WnR", [0]);
+    [
+        family.with("SSE", [0]),
+        sign_extended.clone().with("SAS", 0..=1),
+        sign_extended.with("SAS", [2]).with("SF", [1]),
+    ]
+}
+
 #[cfg(test)]
 mod tests {
     use super::*;
@@ -340,6 +435,53 @@ mod tests {
         }
     }
 
+    /// So do those of AArch64: 2^22 MSR, MRS and System instructions; and of data
+    /// aborts with ISV 1, without RAS and LPA2, 18 codes, of which 4 are external
+    /// aborts with EA either, each with 2 sizes of SSE that load, one of them by the
+    /// width, and 4 of either direction.
+    #[test]
+    fn aarch64_has_the_records_that_the_layout_counts() {
+        let expected = [
+            (0x00, 1),
+            (0x01, 2),
+            (0x07, 1),
+            (0x0e, 1),
+            (0x15, 1 << 16),
+            (0x16, 1 << 16),
+            (0x17, 1 << 16),
+            (0x18, 1 << 22),
+            (0x22, 1),
+            (0x30, 1),
+            (0x32, 3),
+            (0x34, 3),
+        ];
+        for (class, number) in expected {
+            let mut seen = 0;
+            AARCH64.records_of_class(class, &mut |_, _, _| seen += 1);
+            assert_eq!(seen, number, "class {class:#x}");
+        }
+        let mut accesses = 0;
+        AARCH64.records_of_class(0x24, &mut |values, _, editions| {
+            accesses += u32::from(values[1] == 1 && editions.contains(Edition(0)));
+        });
+        let codes = 14 + 4 * 2;
+        let plain = 4 * 2 * 2;
+        let sign_extended = 2 * 2 + 1;
+        assert_eq!(accesses, codes * 2 * 32 * (plain + sign_extended));
+    }
+
+    /// What a form lacks it refuses: no record of another origin's class.
+    #[test]
+    fn each_origin_has_its_own_classes() {
+        for class in 0..64 {
+            for form in [&LONG, &AARCH64] {
+                let mut seen = false;
+                form.records_of_class(class, &mut |_, _, _| seen = true);
+                assert_eq!(seen, form.classes.contains(&class), "class {class:#x}");
+            }
+        }
+    }
+
     /// One SError interrupt without RAS, and ten more with it.
     #[test]
     fn ras_has_ten_more_serror_interrupts() {
@@ -356,7 +498,7 @@ mod tests {
 
     #[test]
     fn no_two_records_make_one_word() {
-        for class in LONG.classes() {
+        for class in LONG.every_class() {
             if matches!(class, 0x03 | 0x04 | 0x05 | 0x06 | 0x08 | 0x0c) {
                 continue;
             }

@@ -270,7 +270,7 @@ fn row_inputs(
         ("a last line of a space", format!("{first}\n ")),
         (
             "rows of every program",
-            format!("read 0 92000005\nheld 13 d\ndecode e5910004\nrun{} 0 0\n", " 0".repeat(48)),
+            format!("read 0 0 92000005\nheld 13 d\ndecode e5910004\nrun{} 0 0\n", " 0".repeat(48)),
         ),
     ];
     let mut inputs: Vec<(String, Vec<u8>)> =
@@ -282,10 +282,11 @@ fn row_inputs(
 }
 
 fn words_inputs() -> Vec<(String, Vec<u8>)> {
-    row_inputs(["read 0 92000005", "read 1 92000018"], |random| {
+    row_inputs(["read 0 0 92000005", "read 0 1 92000018"], |random| {
         let word = 0x9200_0000 + random.below(0x100);
         format!(
-            "trap {:x} {word:x} {:x} {:x}",
+            "trap {:x} {:x} {word:x} {:x} {:x}",
+            random.below(2),
             random.below(10),
             random.word(),
             random.below(1 << 40)

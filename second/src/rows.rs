@@ -17,6 +17,7 @@ mod write;
 use crate::call::{Call, Checker, CHECKERS};
 use crate::cases;
 use crate::log;
+use crate::long::Origin;
 use std::fs;
 use std::io;
 use std::path::Path;
@@ -32,9 +33,9 @@ fn questions() -> Vec<String> {
     let calls = cases::cases()
         .into_iter()
         .map(|case| case.call)
-        .chain(read::questions())
-        .chain(write::questions())
-        .chain(trap::questions())
+        .chain(read::questions(Origin::AArch32))
+        .chain(write::questions(Origin::AArch32))
+        .chain(trap::questions(Origin::AArch32))
         .chain(inject::questions())
         .chain(finish::questions())
         .chain(short::questions())
@@ -43,8 +44,39 @@ fn questions() -> Vec<String> {
         .chain(inject::domain_questions())
         .chain(nests::questions());
     let calls: Vec<Call> = calls.collect();
-    let derived = derived(&calls);
-    calls.iter().chain(&derived).map(Call::line).collect()
+    let joined = derived(&calls);
+    let origins = questions_of_origins();
+    calls.iter().chain(&joined).chain(&origins).map(Call::line).collect()
+}
+
+/// Those of request C-23: what it gives AArch32 to refuse, and the questions to the
+/// calls on words from AArch64.
+fn questions_of_origins() -> Vec<Call> {
+    let mut calls: Vec<Call> =
+        cases::cases_of_origins().into_iter().map(|case| case.call).collect();
+    calls.extend(write::records_of_the_other(Origin::AArch32));
+    calls.extend(finish::records_of_aarch64());
+    calls.extend(read::questions(Origin::AArch64));
+    calls.extend(write::questions(Origin::AArch64));
+    calls.extend(write::records_of_the_other(Origin::AArch64));
+    calls.extend(trap::questions(Origin::AArch64));
+    let again = read_again(&calls);
+    calls.extend(again);
+    calls
+}
+
+/// A tenth of the words that are read.
+fn read_again(calls: &[Call]) -> Vec<Call> {
+    let reads = calls.iter().step_by(10).filter_map(|call| match *call {
+        Call::Read { origin, edition, word } => Some(Call::Again { origin, edition, word }),
+        _ => None,
+    });
+    reads.collect()
+}
+
+/// The seed of an origin's random questions.
+fn seed(origin: Origin, number: u64) -> u64 {
+    number + 100 * u64::from(origin.number())
 }
 
 /// What a program is asked: its own of the questions, and then lines that are no row.
@@ -62,8 +94,8 @@ fn derived(calls: &[Call]) -> Vec<Call> {
     let mut derived = Vec::new();
     for (number, call) in calls.iter().enumerate() {
         match call {
-            Call::Read { edition, word } if number % 10 == 0 => {
-                derived.push(Call::Again { edition: *edition, word: *word });
+            Call::Read { origin, edition, word } if number % 10 == 0 => {
+                derived.push(Call::Again { origin: *origin, edition: *edition, word: *word });
             }
             Call::ShortRead { edition, word } if number % 10 == 0 => {
                 derived.push(Call::ShortAgain { edition: *edition, word: *word });

@@ -8,7 +8,17 @@ use crate::long::{
     has_no_16_bit_form, instructions, CODE, COND, CV, DIRECTION, EA, FNV, IL, S1PTW,
 };
 
-pub static SHORT: Form = Form { kinds: &KINDS, editions: 2, needs_il, families };
+pub static SHORT: Form = Form {
+    kinds: &KINDS,
+    classes: &[
+        0x00, 0x01, 0x03, 0x04, 0x05, 0x06, 0x07, 0x08, 0x0c, 0x0e, 0x11, 0x12, 0x13, 0x20, 0x22,
+        0x24,
+    ],
+    editions: 2,
+    needs_il,
+    families,
+    address_bits: 32,
+};
 
 const RT: Field = field("Rt", 8, 5);
 

@@ -64,7 +64,8 @@ pub fn read(catalogue: &Catalogue, edition: u32, syndrome: u64) -> Result<Record
 pub fn write(catalogue: &Catalogue, edition: u32, record: &Record) -> Result<u32, Refusal> {
     let form = catalogue.form;
     let edition = form.edition(edition).ok_or(Refusal::plain(1))?;
-    let class = record.own_class().ok_or(Refusal::plain(5))?;
+    let own_class = record.own_class().filter(|class| form.classes.contains(class));
+    let class = own_class.ok_or(Refusal::plain(5))?;
     if !record.is_set("IL") && (form.needs_il)(class, record.is_set("ISV")) {
         return Err(Refusal::plain(4));
     }

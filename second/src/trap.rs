@@ -16,7 +16,7 @@ pub enum Intermediate {
 #[derive(Clone, Debug, PartialEq, Eq)]
 pub struct Trap {
     pub record: Record,
-    pub virtual_address: Option<u32>,
+    pub virtual_address: Option<u64>,
     pub intermediate: Intermediate,
 }
 
@@ -39,12 +39,12 @@ pub fn read_trap(
         false => None,
     };
     let virtual_address = match far_counts(&record) {
-        true => Some(u32::try_from(registers.far).map_err(|_| Refusal::plain(8))?),
+        true => Some(address(catalogue.form.address_bits, registers.far)?),
         false => None,
     };
     let intermediate = match (page, virtual_address) {
         (Some(page), Some(address)) if !on_a_walk(&record) => {
-            Intermediate::Byte(page + u64::from(address % 4096))
+            Intermediate::Byte(page + address % 4096)
         }
         (Some(page), _) => Intermediate::Page(page),
         (None, _) => Intermediate::None,
@@ -86,6 +86,14 @@ fn hpfar_counts(record: &Record) -> bool {
     }
 }
 
+/// FAR, if it has no more bits than an address.
+fn address(bits: u32, far: u64) -> Result<u64, Refusal> {
+    match u64::BITS - far.leading_zeros() <= bits {
+        true => Ok(far),
+        false => Err(Refusal::plain(8)),
+    }
+}
+
 /// The page address of HPFAR, whose page number begins at bit 4 and ends at
 /// bit 43 with LPA, else at bit 39.
 fn page(edition: u32, hpfar: u64) -> Result<u64, Refusal> {
@@ -100,10 +108,14 @@ fn page(edition: u32, hpfar: u64) -> Result<u64, Refusal> {
 #[cfg(test)]
 mod tests {
     use super::*;
-    use crate::long::LONG;
+    use crate::long::Origin;
 
     fn trap(edition: u32, esr: u32, far: u64, hpfar: u64) -> Result<Trap, u8> {
-        let catalogue = Catalogue::of(&LONG, [esr]);
+        trap_from(Origin::AArch32, edition, esr, far, hpfar)
+    }
+
+    fn trap_from(origin: Origin, edition: u32, esr: u32, far: u64, hpfar: u64) -> Result<Trap, u8> {
+        let catalogue = Catalogue::of(origin.form(), [esr]);
         let esr = esr.into();
         read_trap(&catalogue, edition, Registers { esr, far, hpfar })
             .map_err(|refusal| refusal.number)
@@ -136,6 +148,14 @@ mod tests {
             let trap = trap(0, esr, u64::MAX, u64::MAX).expect("taken");
             assert_eq!(trap.virtual_address, None);
         }
+    }
+
+    #[test]
+    fn an_address_of_aarch64_has_64_bits() {
+        let top = trap_from(Origin::AArch64, 0, 0x9200_0005, u64::MAX, 0x1_2340).expect("taken");
+        assert_eq!(top.virtual_address, Some(u64::MAX));
+        assert_eq!(top.intermediate, Intermediate::Byte(0x123_4fff));
+        assert_eq!(trap_from(Origin::AArch64, 0, 0x9200_0005, u64::MAX, 1), Err(7));
     }
 
     #[test]

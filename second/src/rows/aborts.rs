@@ -2,6 +2,7 @@
 
 use super::samples::{record, sweep, with};
 use crate::form::Record;
+use crate::long::Origin;
 use crate::random::Random;
 
 pub fn instruction_abort() -> Record {
@@ -43,7 +44,7 @@ pub fn fault_fields() -> Vec<Record> {
 }
 
 /// The rules of the access: what goes with ISV, and with what.
-pub fn tied_fields() -> Vec<Record> {
+pub fn tied_fields(origin: Origin) -> Vec<Record> {
     let mut records = Vec::new();
     for abort in data_aborts() {
         records.extend(sweep(&abort, "ISV SAS SSE WnR"));
@@ -52,6 +53,12 @@ pub fn tied_fields() -> Vec<Record> {
         records.extend(sweep(&with(&abort, "CM", 1), "code WnR"));
     }
     records.extend(sweep(&instruction_abort(), "IL code"));
+    // From AArch64 SF has a part in what goes with SAS and SSE.
+    if origin == Origin::AArch64 {
+        let [_, with_isv] = data_aborts();
+        records.extend(sweep(&with_isv, "SAS SSE SF WnR"));
+        records.extend(sweep(&with_isv, "SRT SF"));
+    }
     records
 }
 

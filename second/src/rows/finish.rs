@@ -6,7 +6,7 @@ use crate::call::Call;
 use crate::cases::state;
 use crate::form::Record;
 use crate::guest::State;
-use crate::long::LONG;
+use crate::long::{Origin, LONG};
 use crate::random::Random;
 use crate::status::{Marks, Status, MODES};
 
@@ -26,6 +26,12 @@ pub fn questions() -> Vec<Call> {
     // The lent call makes the call by value: a seventh of its questions.
     let lent = questions.iter().step_by(7).map(|question| ask(true, question));
     by_value.chain(lent).collect()
+}
+
+/// Request C-23: records of AArch64's classes alone, and loads that only AArch64 has.
+pub fn records_of_aarch64() -> Vec<Call> {
+    let records = samples(Origin::AArch64).map(|record| (7, plain_state(), record));
+    records.map(|question| ask(false, &question)).collect()
 }
 
 fn ask(lent: bool, (value, state, record): &Question) -> Call {
@@ -190,7 +196,7 @@ fn order_of_tests() -> Vec<Question> {
 /// Records of each class; a load with each fault code, which some editions lack, and
 /// with each other field; and fields that are too large.
 fn records() -> Vec<Question> {
-    let mut records: Vec<Record> = samples().collect();
+    let mut records: Vec<Record> = samples(Origin::AArch32).collect();
     records.extend(calls(&LONG));
     records.extend(sweep(&load(), "code"));
     records.extend(sweep(&store(), "AR CM S1PTW"));

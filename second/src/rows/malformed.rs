@@ -7,31 +7,32 @@ fn rows() -> Vec<String> {
     let words: String = (1..=45).map(|number| format!(" {number:x}")).collect();
     let state = words + " 1 0 1";
     let mut rows: Vec<String> = [
-        "read 0 92000005",
-        "write 0 0 0 1",
-        "write 0 1 1 1 e 1",
-        "write 0 2 3 1 1 e 0 0 0 0 0 1",
-        "write 0 3 4 1 1 e 1 2 3 4 0",
-        "write 0 4 1 1 e ff 1f 1 3 0",
-        "write 0 5 1 1 e",
-        "write 0 6 11 1 ffff",
-        "write 0 7 1 1 e 1",
-        "write 0 8 1 3 1 1 0 10",
-        "write 0 9 1 1 2 0 3 0 0 0 0 0 0 0 1 5",
-        "write 0 a 30 1",
-        "write 0 b 1 1 1",
-        "write 0 c 1 1 1",
-        "write 0 d 1 6 1 11",
-        "carry 0 1 8 1 3 1 1 0 10",
-        "trap 0 92000005 8abc 12340",
-        "both 0 2 92000005 8abc 12340",
+        "read 0 0 92000005",
+        "write 0 0 0 0 1",
+        "write 0 0 1 1 1 e 1",
+        "write 0 0 2 3 1 1 e 0 0 0 0 0 1",
+        "write 0 0 3 4 1 1 e 1 2 3 4 0",
+        "write 0 0 4 1 1 e ff 1f 1 3 0",
+        "write 0 0 5 1 1 e",
+        "write 0 0 6 11 1 ffff",
+        "write 0 0 7 1 1 e 1",
+        "write 0 0 8 1 3 1 1 0 10",
+        "write 0 0 9 1 1 2 0 3 0 0 0 0 0 0 0 1 5",
+        "write 0 0 a 30 1",
+        "write 0 0 b 1 1 1",
+        "write 0 0 c 1 1 1",
+        "write 0 0 d 1 6 1 11",
+        "write 1 0 e 1 3 7 7 f 1f f 1",
+        "carry 0 0 1 8 1 3 1 1 0 10",
+        "trap 0 0 92000005 8abc 12340",
+        "both 0 0 2 92000005 8abc 12340",
         "hread 0 92000005",
         "hwrite 0 5 1 1 e 1 a",
         "hwrite 0 8 1 1 1 0 10",
         "hwrite 0 9 1 1 2 0 3 0 0 0 0 0 0 1 5",
         "widen 10 2 3 1 1 e 0 0 0 0 0 1",
         "spsr 1 0 1 1000010",
-        "again 0 92000005",
+        "again 0 0 92000005",
         "hagain 0 92000005",
         "hcarry 0 1 5 1 1 e 1 a",
         "held 13 d",
@@ -66,7 +67,8 @@ fn with_each_number(row: &str, value: &str) -> Vec<String> {
         changed.join(" ")
     };
     // The words of a state are alike.
-    (1..words.len()).filter(|place| !(10..46).contains(place)).map(with).collect()
+    let alike = if words.len() > 46 { 10..46 } else { 0..0 };
+    (1..words.len()).filter(|place| !alike.contains(place)).map(with).collect()
 }
 
 /// Numbers missing and too many; each number in turn too large for a flag, for
@@ -107,11 +109,11 @@ fn words_and_lengths() -> Vec<String> {
     vec![
         String::new(),
         "read".into(),
-        "readreadread 0 0".into(),
-        format!("read 0 {}", "0".repeat(2000)),
+        "readreadread 0 0 0".into(),
+        format!("read 0 0 {}", "0".repeat(2000)),
         format!("read{}", " 0".repeat(2000)),
         "r".repeat(2000),
-        "read 0 2000000".into(),
+        "read 0 0 2000000".into(),
     ]
 }
 

@@ -1,11 +1,11 @@
 //! Records around the edges of the rules.
 
 use crate::form::{Form, Kind, Record};
-use crate::long::LONG;
+use crate::long::{Origin, LONG};
 use crate::random::Random;
 
-/// At least one ordinary record of each class, as rows. Some of the aborts are
-/// had by some editions only.
+/// At least one ordinary record of each class of AArch32, as rows. Some of the
+/// aborts are had by some editions only.
 const SAMPLES: [&[u64]; 40] = [
     &[0, 0x00, 1],
     &[0, 0x0e, 1],
@@ -49,12 +49,44 @@ const SAMPLES: [&[u64]; 40] = [
     &[13, 1, 6, 1, 0x11],
 ];
 
+/// The same of AArch64.
+const AARCH64_SAMPLES: [&[u64]; 24] = [
+    &[0, 0x00, 1],
+    &[0, 0x0e, 1],
+    &[0, 0x22, 1],
+    &[1, 1, 1, 0xe, 1],
+    &[5, 1, 1, 0xe],
+    &[6, 0x15, 1, 0],
+    &[6, 0x16, 1, 0xffff],
+    &[6, 0x17, 1, 0xbeef],
+    &[14, 1, 3, 0, 0, 0, 0, 0, 1],
+    &[14, 1, 1, 5, 2, 9, 0x12, 6, 0],
+    &[8, 1, 0, 0, 0, 0, 0x05],
+    &[8, 1, 3, 1, 1, 0, 0x10],
+    &[9, 1, 0, 0, 0, 0, 0, 0, 0, 0, 0, 0, 0, 0, 0x05],
+    &[9, 1, 0, 0, 0, 0, 0, 0, 0, 0, 0, 1, 1, 1, 0x0f],
+    &[9, 1, 1, 2, 0, 3, 0, 0, 0, 0, 0, 0, 0, 1, 0x05],
+    &[9, 1, 1, 2, 1, 0x1f, 1, 1, 0, 0, 0, 0, 0, 0, 0x07],
+    &[9, 1, 1, 3, 0, 0xf, 1, 0, 0, 0, 0, 0, 0, 0, 0x14],
+    &[10, 0x30, 1],
+    &[11, 1, 0, 0],
+    &[11, 1, 1, 1],
+    &[12, 1, 0, 0],
+    &[12, 1, 1, 1],
+    &[13, 1, 0, 0, 0],
+    &[13, 1, 6, 1, 0x11],
+];
+
 pub fn record(row: &[u64]) -> Record {
     Record::from_row(&LONG, row).expect("a record")
 }
 
-pub fn samples() -> impl Iterator<Item = Record> {
-    SAMPLES.iter().map(|row| record(row))
+pub fn samples(origin: Origin) -> impl Iterator<Item = Record> {
+    let rows: &[&[u64]] = match origin {
+        Origin::AArch32 => &SAMPLES,
+        Origin::AArch64 => &AARCH64_SAMPLES,
+    };
+    rows.iter().map(|row| record(row))
 }
 
 /// The word of a record whose class and fields fit.
@@ -106,7 +138,7 @@ pub fn fields_too_large(record: &Record) -> Vec<Record> {
 /// Immediates around 8 bits, with either IL.
 pub fn calls(form: &Form) -> Vec<Record> {
     let mut records = Vec::new();
-    for &class in form.kinds[6].classes {
+    for class in form.classes_of(&form.kinds[6]) {
         for il in [0, 1] {
             for imm16 in [0, 1, 0xfe, 0xff, 0x100, 0x101, 0x1ff, 0x8000, 0xff00, 0xffff, 0x1_0000] {
                 records.extend(Record::from_row(form, &[6, class.into(), il, imm16]));
@@ -117,18 +149,20 @@ pub fn calls(form: &Form) -> Vec<Record> {
 }
 
 /// The rules that tie fields of classes other than aborts to each other.
-pub fn tied_fields() -> Vec<Record> {
-    let mut records = calls(&LONG);
+pub fn tied_fields(origin: Origin) -> Vec<Record> {
+    let mut records = calls(origin.form());
     records.retain(|record| record.word().is_some());
-    for sample in samples().filter(|sample| sample.kind.has("Direction")) {
+    for sample in samples(origin).filter(|sample| sample.kind.has("Direction")) {
         records.extend(sweep(&sample, "IL Direction"));
     }
-    for sample in samples().filter(|sample| sample.kind.has("COND")) {
+    for sample in samples(origin).filter(|sample| sample.kind.has("COND")) {
         records.extend(sweep(&sample, "CV COND"));
     }
-    let ldc = record(&[4, 1, 1, 0xe, 0x81, 0x11, 1, 0, 0]);
-    records.extend(sweep(&ldc, "AM Direction CV Offset"));
-    records.extend(sweep(&record(&[7, 1, 0, 0, 0]), "CCKNOWNPASS CV COND"));
+    if origin == Origin::AArch32 {
+        let ldc = record(&[4, 1, 1, 0xe, 0x81, 0x11, 1, 0, 0]);
+        records.extend(sweep(&ldc, "AM Direction CV Offset"));
+        records.extend(sweep(&record(&[7, 1, 0, 0, 0]), "CCKNOWNPASS CV COND"));
+    }
     records.extend(sweep(&record(&[11, 1, 0, 0]), "IL ISV EX"));
     records.extend(sweep(&record(&[12, 1, 0, 0]), "IL CM WnR"));
     records
@@ -145,8 +179,10 @@ pub fn errors() -> Vec<Record> {
 
 /// A record of random fields that fit.
 pub fn random_record(random: &mut Random, form: &Form) -> Record {
-    let kind: &'static Kind = &form.kinds[random.below(form.kinds.len() as u64) as usize];
-    let class = random.pick(kind.classes).into();
+    let kinds: Vec<&'static Kind> = form.kinds_here().collect();
+    let kind = random.pick(&kinds);
+    let classes: Vec<u8> = form.classes_of(kind).collect();
+    let class = random.pick(&classes).into();
     let value = |field: &crate::form::Field| random.below(field.values().into()) as u32;
     let values = kind.fields.iter().map(value).collect();
     Record { kind, class, values }
