@@ -16,13 +16,14 @@ use Rattle.bits.specs.Among.{among}
 use Rattle.rule.proofs.Having.{origin-lacks}
 use Rattle.status.specs.Sound.{sound}
 use Rattle.exception.specs.declared.state.Guest.{Guest}
+use Rattle.step.specs.Over.{had}
 use Rattle.device.specs.declared.access.Described.{Described}
 use Rattle.device.specs.declared.access.Described.the-variants.{Access, Nothing}
 use Rattle.device.specs.declared.access.Finished.{Finished}
 use Rattle.device.specs.declared.answer.Answer.{Answer}
 use Rattle.device.specs.declared.answer.Answer.the-variants.{Loaded, Stored, NoEdition, UnsoundStatus, NotDescribed}
 use Rattle.device.specs.Answer.{accessNumber, accessList}
-use Rattle.device.specs.Finish.{had, describedOf, isAccess, accessNumbers, stored, loaded, accessed, refusing, byDescription, finished}
+use Rattle.device.specs.Finish.{describedOf, isAccess, accessNumbers, stored, loaded, accessed, refusing, byDescription, finished}
 use Rattle.device.specs.Promise.{FinishPromise}
 
 -- ---- the ways through the tests
@@ -43,6 +44,11 @@ module _ (s : Guest) (r : Record) (value : ℕ) where
   pub settled : had r ≡ true → sound (s .marks) (s .status) ≡ true → {d : Described} → describedOf r ≡ d → byDescription s d value ≡ finished s r value
   unfolding finished
   settled e d q = rw (e, d) (told (λ (x : Described). byDescription s x value) q)
+
+-- a data abort with ISV 1 that passes the tests is finished by its description
+pub taken : (s : Guest) (r : DataAbort) (value : ℕ) → had (Record.DataAbort r) ≡ true → sound (s .marks) (s .status) ≡ true → r .isv ≡ true
+    → accessed s r value ≡ finished s (Record.DataAbort r) value
+taken s r value h d v = settled s (Record.DataAbort r) value h d (ap (λ (b : Bool). cond b (Access r) Nothing) v)
 
 -- ---- the first test that fails gives the number
 

@@ -2,7 +2,7 @@
 use mathlib.Core.Path.{_≡_, refl, sym, ap, _∙_}
 use mathlib.Core.Bool.{Bool, true, false, cond}
 use mathlib.Core.List.{[], _∷_}
-use Prim.Native.Nat.{ℕ, _+_, _%_, _^_, _<_}
+use Prim.Native.Nat.{ℕ, _<_}
 use lib.ListN.{length, getD}
 use lib.Seq.{getD-set-same, getD-set-other}
 use Rattle.bits.specs.Decide.{needs}
@@ -10,43 +10,28 @@ use Rattle.bits.proofs.Deciding.{answer-is}
 use Rattle.record.specs.declared.kinds.DataAbort.{DataAbort}
 use Rattle.record.specs.declared.kinds.Record.{Record}
 use Rattle.status.specs.Sound.{sound}
-use Rattle.status.specs.It.{itAdvanced}
 use Rattle.status.proofs.Advance.{sound-advanced}
 use Rattle.exception.specs.declared.state.Guest.{Guest}
 use Rattle.exception.specs.declared.state.FaultRegisters.{FaultRegisters}
 use Rattle.exception.specs.declared.state.Saved.{Saved}
+use Rattle.step.specs.Step.{stepped}
+use Rattle.step.specs.Over.{had}
+use Rattle.step.proofs.Frame.{Kept, same, Stepped, steps}
 use Rattle.device.specs.declared.access.Described.{Described}
 use Rattle.device.specs.declared.access.Described.the-variants.{Access, Nothing}
 use Rattle.device.specs.declared.access.Finished.{Finished}
 use Rattle.device.specs.declared.answer.Answer.the-variants.{NoEdition, UnsoundStatus}
 use Rattle.device.specs.Data.{transferred, extended}
-use Rattle.device.specs.Finish.{had, describedOf, bytesOf, bigEndian, stepped, stored, loaded, accessed, refusing, byDescription, finished}
-
--- every field but the registers, PC and the status word
-pub record Kept (s after : Guest) : Type 0 where
-  pub saved : after .saved ≡ s .saved
-  pub faults : after .faults ≡ s .faults
-  pub sctlr : after .sctlr ≡ s .sctlr
-  pub vbar : after .vbar ≡ s .vbar
-  pub ttbcr : after .ttbcr ≡ s .ttbcr
-  pub marks : after .marks ≡ s .marks
-
-same : (s : Guest) → Kept s s
-same s = record { saved = refl; faults = refl; sctlr = refl; vbar = refl; ttbcr = refl; marks = refl }
+use Rattle.device.specs.Finish.{describedOf, bigEndian, stored, loaded, accessed, refusing, byDescription, finished}
 
 -- an access that is finished: PC and the status word move on, whichever way it goes
-pub record Stepped (s after : Guest) (r : DataAbort) : Type 0 where
-  pub pc : after .pc ≡ (s .pc + bytesOf (r .il)) % 2 ^ 32
-  pub status : after .status ≡ itAdvanced (s .status)
-  pub kept : Kept s after
-
-pub access-steps : (s : Guest) (r : DataAbort) (value : ℕ) → Stepped s (accessed s r value .state) r
-unfolding accessed stepped
+pub access-steps : (s : Guest) (r : DataAbort) (value : ℕ) → Stepped s (accessed s r value .state) (r .il)
+unfolding accessed
 access-steps s r value = go (r .wnr)
   where
-    go : (b : Bool) → Stepped s (cond b (stored s r) (loaded s r value) .state) r
-    go true = record { pc = refl; status = refl; kept = record { saved = refl; faults = refl; sctlr = refl; vbar = refl; ttbcr = refl; marks = refl } }
-    go false = record { pc = refl; status = refl; kept = record { saved = refl; faults = refl; sctlr = refl; vbar = refl; ttbcr = refl; marks = refl } }
+    go : (b : Bool) → Stepped s (cond b (stored s r) (loaded s r value) .state) (r .il)
+    go true = steps s _ (r .il)
+    go false = steps s _ (r .il)
 
 by-kind : (s : Guest) (d : Described) (value : ℕ) → Kept s (byDescription s d value .state)
 by-kind s (Access r) value = access-steps s r value .kept

@@ -1,17 +1,13 @@
 -- A record that some edition has and that describes its access names a register below 31 and a size below 3, so that the call needs nothing of its caller.
 use mathlib.Core.Path.{_≡_, refl, sym, ap, _∙_}
 use mathlib.Core.Bool.{Bool, true, false, cond, not, _&&_, _||_, true≢false}
-use mathlib.Core.Logic.{⊎-elim}
 use Prim.Native.Nat.{ℕ, _^_, _<_}
 use native.Mathlib.Omega.{arith}
 use lib.Dec.{T, eqb, ltb, ltb→lt}
-use borrow.Author.Tests.{ltb-true, eqb-false, eq-eqb}
+use borrow.Author.Tests.{ltb-true, eqb-false}
 use Rattle.bits.specs.Layout.{fitting}
 use Rattle.bits.proofs.Arms.{absurd-answer}
 use Rattle.bits.proofs.Booleans.{and-left, and-right, both-left, both-right}
-use Rattle.edition.specs.Feature.{editions}
-use Rattle.edition.specs.Mask.{maskBelow, maskOf}
-use Rattle.edition.proofs.Masks.{some-or-none, mask-zero}
 use Rattle.iss.specs.Rule.{implies, abortRule, maintenanceRule}
 use Rattle.record.specs.declared.kinds.DataAbort.{DataAbort}
 use Rattle.record.specs.declared.origin.Origin.{Origin}
@@ -21,18 +17,13 @@ use Rattle.layout.specs.Fields.{fieldsOf}
 use Rattle.record.specs.Sort.{sortOf}
 use Rattle.record.proofs.Sorts.{data-abort-sort}
 use Rattle.rule.specs.Has.{has}
+use Rattle.step.specs.Over.{had}
 use Rattle.rule.specs.Rule.{noSyndromeRule, validSyndromeRule, syndromeRule, extensionFrom, dataRule}
 use Rattle.rule.proofs.Having.{has-fits, has-layout}
+use Rattle.step.proofs.Having.{had-some}
 use Rattle.device.specs.declared.access.Described.{Described}
 use Rattle.device.specs.declared.access.Described.the-variants.{Access, Nothing}
-use Rattle.device.specs.Finish.{had, describedBy, describedOf}
-
--- test 5 in plain words: some edition has the record, or none has
-pub had-some : (r : Record) → had r ≡ true → (e : ℕ) × (e < editions) × (has Origin.AArch32 e r ≡ true)
-unfolding maskOf
-had-some r h =
-    ⊎-elim (λ z. absurd (true≢false (sym h ∙ ap not (eq-eqb (maskBelow editions (λ e. has Origin.AArch32 e r)) 0 z)))) (λ found. found)
-    (some-or-none editions (λ e. has Origin.AArch32 e r))
+use Rattle.device.specs.Finish.{describedBy, describedOf}
 
 module _ (a : DataAbort) (e : ℕ) (h : has Origin.AArch32 e (Record.DataAbort a) ≡ true) (v : a .isv ≡ true) where
   rule-of : syndromeRule Origin.AArch32 a ≡ true

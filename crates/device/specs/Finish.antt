@@ -1,20 +1,18 @@
 -- A load or store that is finished (02, C-17): the answer, and the whole state after it.
-use Prim.Native.Nat.{ℕ, _+_, _%_, _^_}
-use mathlib.Core.Bool.{Bool, true, false, not, cond}
+use Prim.Native.Nat.{ℕ}
+use mathlib.Core.Bool.{Bool, true, false, cond}
 use mathlib.Core.List.{List, [], _∷_}
-use lib.Dec.{eqb}
 use Rattle.bits.specs.Decide.{Test, needs, decide}
 use Rattle.bits.specs.Field.{bitOf}
 use Rattle.record.specs.declared.kinds.DataAbort.{DataAbort}
 use Rattle.record.specs.Sort.{sortOf}
-use Rattle.record.specs.declared.origin.Origin.{Origin}
 use Rattle.record.specs.declared.kinds.Record.{Record}
 use Rattle.record.specs.declared.kinds.Sort.{Sort}
-use Rattle.rule.specs.Has.{editionsOf}
 use Rattle.status.specs.Sound.{sound}
-use Rattle.status.specs.It.{itAdvanced}
 use Rattle.exception.specs.declared.state.Guest.{Guest}
-use Rattle.exception.specs.State.{registerIn, withRegister, changed}
+use Rattle.exception.specs.State.{registerIn, withRegister}
+use Rattle.step.specs.Step.{stepped}
+use Rattle.step.specs.Over.{had}
 use Rattle.device.specs.declared.answer.Answer.{Answer}
 use Rattle.device.specs.declared.answer.Answer.the-variants.{Loaded, Stored, NoEdition, UnsoundStatus, NotDescribed}
 use Rattle.device.specs.declared.access.Described.{Described}
@@ -23,10 +21,6 @@ use Rattle.device.specs.declared.access.Finished.{Finished}
 use Rattle.device.specs.Data.{transferred, extended}
 
 -- ---- the tests
-
--- 5: some edition has the record, from AArch32, which the guest's state is (02, C-23)
-abbrev pub had : Record → Bool
-had r = not (eqb (editionsOf Origin.AArch32 r) 0)
 
 -- 18: a data abort with ISV 1 describes its access, and no other record does
 abbrev pub describedBy : Sort → Described
@@ -53,17 +47,9 @@ accessNumbers s r =
 
 -- ---- the access
 
--- IL: the instruction is 4 or 2 bytes long
-abbrev pub bytesOf : Bool → ℕ
-bytesOf il = cond il 4 2
-
 -- E: the guest's data is big-endian
 abbrev pub bigEndian : ℕ → Bool
 bigEndian w = bitOf w 9
-
--- the state past the instruction, with these registers: PC moves, IT advances, and nothing else changes
-unfoldable pub stepped : Guest → List ℕ → Bool → Guest
-stepped s regs il = changed s regs ((s .pc + bytesOf il) % 2 ^ 32) (itAdvanced (s .status)) (s .saved) (s .faults)
 
 -- a store gives the device the register's low bits, and a load puts the device's value into the register
 abbrev pub stored : Guest → DataAbort → Finished

@@ -1,6 +1,6 @@
 // An access finished, by value.
 ghost use mathlib.Core.Path.{_≡_};
-ghost use Rattle.device.specs.Finish.{describedOf, bytesOf, stepped, accessed};
+ghost use Rattle.device.specs.Finish.{describedOf, accessed};
 ghost use Rattle.device.specs.Promise.{FinishPromise};
 use crate::answer::Answer;
 use crate::data::extended;
@@ -10,12 +10,11 @@ use exception::Guest;
 use exception::register;
 use exception::with_register;
 use record::DataAbort;
-use record::Origin;
 use record::Record;
 use record::Sort;
-use status::it_advanced;
 use status::sound;
-use std::num::wrapping_add_u32;
+use step::had;
+use step::stepped;
 
 pub struct Finished {
     pub answer: Answer,
@@ -46,24 +45,6 @@ fn described_of(what: Record) -> Described
     }
 }
 
-// The length of the instruction, which IL tells, whatever T is.
-fn bytes_of(il: bool) -> u32
-    ensures { λ r. ⌜ r ≡ bytesOf il ⌝ }
-{
-    if il { 4 } else { 2 }
-}
-
-// The state past the instruction, with these registers.
-fn stepped(state: Guest, regs: [u32; 31], il: bool) -> Guest
-    ensures { λ r. ⌜ r ≡ stepped state regs il ⌝ }
-{
-    let mut after = state;
-    after.regs = regs;
-    after.pc = wrapping_add_u32(state.pc, bytes_of(il));
-    after.status = it_advanced(state.status);
-    after
-}
-
 fn accessed(state: Guest, abort: DataAbort, value: u32) -> Finished
     ensures { λ r. ⌜ r ≡ accessed state abort value ⌝ }
 {
@@ -91,7 +72,7 @@ fn accessed(state: Guest, abort: DataAbort, value: u32) -> Finished
 pub fn finish(state: Guest, what: Record, value: u32) -> Finished
     ensures { λ r. ⌜ FinishPromise state what value r ⌝ }
 {
-    if rule::editions(Origin::AArch32, what) == 0 {
+    if !had(what) {
         return Finished {
             answer: Answer::NoEdition,
             state,

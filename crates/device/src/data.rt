@@ -29,7 +29,7 @@ fn reversed(sas: u32, value: u32) -> u32
 }
 
 // The low bits as they pass: reversed where the guest's data is big-endian.
-pub(crate) fn transferred(sas: u32, big: bool, value: u32) -> u32
+pub fn transferred(sas: u32, big: bool, value: u32) -> u32
     ensures { λ r. ⌜ r ≡ transferred sas big value ⌝ }
 {
     let low = cut_to(sas, value);
@@ -57,7 +57,7 @@ fn ones_above(sas: u32) -> u32
 }
 
 // The low bits as a register takes them: extended by sign where SSE says so, else by zero.
-pub(crate) fn extended(sas: u32, sse: bool, value: u32) -> u32
+pub fn extended(sas: u32, sse: bool, value: u32) -> u32
     ensures { λ r. ⌜ r ≡ extended sas sse value ⌝ }
 {
     let low = cut_to(sas, value);

@@ -7,3 +7,5 @@ pub use access::Finished;
 pub use access::finish;
 pub use answer::Answer;
 pub use answer::number;
+pub use data::extended;
+pub use data::transferred;

@@ -64,7 +64,7 @@ bit-21 : (w : ℕ) → fieldOf w 21 21 ≡ fieldOf (fieldOf w 24 16) 5 5
 bit-21 w = omega arith
 
 -- what a sound word is, from its bits 9:0 and 24:16 alone
-abbrev soundBy : Marks → ℕ → ℕ → Bool
+abbrev pub soundBy : Marks → ℕ → ℕ → Bool
 soundBy marks low high =
     isMode (fieldOf low 4 0)
     && not (bitOf high 8)
@@ -72,7 +72,7 @@ soundBy marks low high =
     && allowed (marks .pan) (bitOf high 6)
     && allowed (marks .dit) (bitOf high 5)
 
-by-parts : (marks : Marks) (w : ℕ) → sound marks w ≡ soundBy marks (fieldOf w 9 0) (fieldOf w 24 16)
+pub by-parts : (marks : Marks) (w : ℕ) → sound marks w ≡ soundBy marks (fieldOf w 9 0) (fieldOf w 24 16)
 unfolding sound
 by-parts marks w =
     ap₂ _&&_

@@ -237,7 +237,7 @@ pub fn from_spsr(marks: Marks, spsr: u32) -> FromSpsr
 }
 
 // IT: bits 7:2 of it stand in bits 15:10, and bits 1:0 in 26:25.
-fn it_of(status: u32) -> u32
+pub fn it_of(status: u32) -> u32
     ensures { λ r. ⌜ r ≡ itOf status ⌝ }
 {
     ((status & 0xFC00) >> 8) | ((status & 0x0600_0000) >> 25)

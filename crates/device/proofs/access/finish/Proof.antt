@@ -1,26 +1,18 @@
 -- `device::access::finish` meets its contract: each return's answer and state are the definition's.
-use mathlib.Core.Path.{_≡_, sym, ap, _∙_}
-use mathlib.Core.Bool.{Bool, true, false, not}
-use Prim.Native.Nat.{ℕ}
-use borrow.Author.Tests.{not-true, not-false, eq-eqb, ne-eqb}
-use lib.Dec.{eqb}
+use mathlib.Core.Path.{_≡_, sym, _∙_}
+use mathlib.Core.Bool.{true}
+use borrow.Author.Tests.{not-true, not-false}
 use borrow.Author.Needs.{needs}
-use Rattle.record.specs.declared.origin.Origin.{Origin}
-use Rattle.record.specs.declared.kinds.Record.{Record}
-use Rattle.rule.specs.Has.{editionsOf}
 use Rattle.status.specs.Sound.{sound}
+use Rattle.step.specs.Over.{had}
 use Rattle.device.specs.declared.access.Described.{Described}
-use Rattle.device.specs.Finish.{had, byDescription, finished}
+use Rattle.device.specs.Finish.{byDescription, finished}
 use Rattle.device.proofs.Answers.{promised, no-edition, unsound, settled}
 use Rattle.device.proofs.access.finish.Statement.{statement}
 use Rattle.device.proofs.access.finish.Tie as tie
 
--- the test of the mask is the definition's
-none : (r : Record) {mask : ℕ} {b : Bool} → mask ≡ editionsOf Origin.AArch32 r → eqb mask 0 ≡ b → had r ≡ not b
-none r p q = ap not (ap (λ (m : ℕ). eqb m 0) (sym p) ∙ q)
-
 passed-had : (c : tie.Else1) → had (c .before .before .args .what) ≡ true
-passed-had c = none (c .before .before .args .what) (c .before .editions .ensures) (ne-eqb _ _ (c .if1 .left))
+passed-had c = sym (c .before .had .ensures) ∙ not-false _ (c .if1 .left)
 
 passed-sound : (c : tie.Else2) → sound (c .before .before .before .before .before .args .state .marks) (c .before .before .before .before .before .args .state .status) ≡ true
 passed-sound c = sym (c .before .sound .ensures) ∙ not-false _ (c .if2 .left)
@@ -32,14 +24,14 @@ known : (c : tie.After-described-of) {d : Described} → c .described-of .result
 known c e =
     settled _ _ _ (passed-had (c .before .before .before .before)) (passed-sound (c .before)) (sym (c .described-of .ensures) ∙ e)
 
-editions-requires : tie.Need-editions-requires
-editions-requires c κs = search needs
+had-requires : tie.Need-had-requires
+had-requires c κs = search needs
 
 returns : tie.Need-returns
 returns c =
     let start = c .before .before in
     promised (start .args .state) (start .args .what) (start .args .value)
-    (no-edition (start .args .state) (start .args .what) (start .args .value) (none (start .args .what) (c .before .editions .ensures) (eq-eqb _ _ (c .if1 .taken))))
+    (no-edition (start .args .state) (start .args .what) (start .args .value) (sym (c .before .had .ensures) ∙ not-true _ (c .if1 .taken)))
 
 sound-requires : tie.Need-sound-requires
 sound-requires c κs = search needs
@@ -78,7 +70,7 @@ pub finish-spec : {M : Type 1} → statement M
 finish-spec =
     tie.close
     (tie.spec
-    editions-requires
+    had-requires
     returns
     sound-requires
     returns-2

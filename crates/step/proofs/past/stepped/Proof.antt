@@ -1,4 +1,4 @@
--- `device::access::stepped` meets its contract, by what its calls ensure.
+-- `step::past::stepped` meets its contract, by what its calls ensure.
 use mathlib.Core.Path.{_≡_, refl, ap, _∙_}
 use mathlib.Core.Bool.{Bool}
 use mathlib.Core.List.{List}
@@ -8,9 +8,9 @@ use Rattle.status.specs.It.{itAdvanced}
 use Rattle.exception.specs.declared.state.Guest.{Guest}
 use Rattle.exception.specs.State.{changed}
 use Rattle.exception.proofs.Changed.{changed-same}
-use Rattle.device.specs.Finish.{bytesOf, stepped}
-use Rattle.device.proofs.access.stepped.Statement.{statement}
-use Rattle.device.proofs.access.stepped.Tie as tie
+use Rattle.step.specs.Step.{bytesOf, stepped}
+use Rattle.step.proofs.past.stepped.Statement.{statement}
+use Rattle.step.proofs.past.stepped.Tie as tie
 
 all : (s : Guest) (regs : List ℕ) (il : Bool) {n pc status : ℕ} → n ≡ bytesOf il → pc ≡ (s .pc + n) % 2 ^ 32 → status ≡ itAdvanced (s .status)
     → changed s regs pc status (s .saved) (s .faults) ≡ stepped s regs il
