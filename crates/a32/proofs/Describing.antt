@@ -48,7 +48,14 @@ module _ (s : Guest) (w : ℕ) where
 
   promised : {a : Answer} {registers : List ℕ} → a ≡ describedAnswer s w → registers ≡ registersIn a
       → Describing s w (record { answer = a; registers = registers })
-  promised same held = record { answer = same; number = ap answerNumber same ∙ describe-number; mask = refl; count = refl; registers = held }
+  promised same held = record {
+    answer = same;
+    number = ap answerNumber same
+        ∙ describe-number;
+    mask = refl;
+    count = refl;
+    registers = held;
+  }
 
   pub unsound : sound (s .marks) (s .status) ≡ false → Describing s w (record { answer = UnsoundStatus; registers = padded 16 [] })
   unsound k = promised (sym (first-fails k)) refl
@@ -58,7 +65,8 @@ module _ (s : Guest) (w : ℕ) where
     thumb m = promised (sym (second-fails k m)) refl
 
     module _ (m : t32 (s .status) ≡ false) where
-      pub unformed : {d : Decoded} → d ≡ decodeOf w → d ≡ Decoded.Refused → Describing s w (record { answer = NoForm; registers = padded 16 [] })
+      pub unformed : {d : Decoded} → d ≡ decodeOf w → d ≡ Decoded.Refused
+          → Describing s w (record { answer = NoForm; registers = padded 16 [] })
       unformed read same = promised (sym (third-fails k m (refused-form w (sym read ∙ same)))) refl
 
       pub taken : {d : Decoded} {f : Fields} {mode : ℕ} {a : Access} {registers : List ℕ} → d ≡ decodeOf w → d ≡ Decoded.Taken f

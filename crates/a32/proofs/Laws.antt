@@ -31,15 +31,18 @@ describe-exactly s w k =
 -- WHAT IS DESCRIBED: exactly a sound state's A32 instruction that some legal fields make, by those fields
 pub described-exactly : (s : Guest) (w : ℕ) (a : Access)
     → (describedAnswer s w ≡ Taken a)
-    ↔ ((sound (s .marks) (s .status) ≡ true) × (t32 (s .status) ≡ false) × ((f : Fields) × (legal f ≡ true) × (fieldsWord f ≡ w) × (a ≡ accessOf s f)))
+    ↔ ((sound (s .marks) (s .status) ≡ true) × (t32 (s .status) ≡ false)
+    × ((f : Fields) × (legal f ≡ true) × (fieldsWord f ≡ w) × (a ≡ accessOf s f)))
 described-exactly s w a = (forward, back)
   where
     forward : describedAnswer s w ≡ Taken a
-        → (sound (s .marks) (s .status) ≡ true) × (t32 (s .status) ≡ false) × ((f : Fields) × (legal f ≡ true) × (fieldsWord f ≡ w) × (a ≡ accessOf s f))
+        → (sound (s .marks) (s .status) ≡ true) × (t32 (s .status) ≡ false)
+        × ((f : Fields) × (legal f ≡ true) × (fieldsWord f ≡ w) × (a ≡ accessOf s f))
     forward t = by (sound (s .marks) (s .status)) refl (t32 (s .status)) refl (isForm w) refl
       where
         by : (k : Bool) → sound (s .marks) (s .status) ≡ k → (m : Bool) → t32 (s .status) ≡ m → (b : Bool) → isForm w ≡ b
-            → (sound (s .marks) (s .status) ≡ true) × (t32 (s .status) ≡ false) × ((f : Fields) × (legal f ≡ true) × (fieldsWord f ≡ w) × (a ≡ accessOf s f))
+            → (sound (s .marks) (s .status) ≡ true) × (t32 (s .status) ≡ false)
+            × ((f : Fields) × (legal f ≡ true) × (fieldsWord f ≡ w) × (a ≡ accessOf s f))
         by false hk m hm b hb = let q = first-fails s w hk in absurd-answer (cc (t, q))
         by true hk true hm b hb = let q = second-fails s w hk hm in absurd-answer (cc (t, q))
         by true hk false hm false hb = let q = third-fails s w hk hm hb in absurd-answer (cc (t, q))
@@ -48,7 +51,8 @@ described-exactly s w a = (forward, back)
             let found = decode-exactly w (fieldsAt w) .0 (decode-taken w hb) in
             (hk, hm, (fieldsAt w, found .0, found .1, cc (t, q)))
 
-    back : (sound (s .marks) (s .status) ≡ true) × (t32 (s .status) ≡ false) × ((f : Fields) × (legal f ≡ true) × (fieldsWord f ≡ w) × (a ≡ accessOf s f))
+    back : (sound (s .marks) (s .status) ≡ true) × (t32 (s .status) ≡ false)
+        × ((f : Fields) × (legal f ≡ true) × (fieldsWord f ≡ w) × (a ≡ accessOf s f))
         → describedAnswer s w ≡ Taken a
     back h =
         let f = h .2 .0 in

@@ -1,5 +1,5 @@
--- Describing an instruction (02, C-18): 9 for an unsound state, then 19 in T32 state, then 19 for a word that is none of these forms or whose decoding
--- is UNPREDICTABLE.
+-- Describing an instruction (02, C-18): 9 for an unsound state, then 19 in T32 state, then 19 for a word that is none of these forms or
+-- whose decoding is UNPREDICTABLE.
 use Prim.Native.Nat.{ℕ}
 use mathlib.Core.Path.{_≡_}
 use mathlib.Core.Bool.{not}

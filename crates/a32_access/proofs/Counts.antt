@@ -22,7 +22,8 @@ use Rattle.a32_access.proofs.Lists.{length-next}
 -- one digit more
 digit-more : (n list : ℕ) → ones (list % 2 ^ suc n) ≡ ones (list / 2 ^ n % 2) + ones (list % 2 ^ n)
 digit-more n list =
-    ap (λ (k : ℕ). ones (list % 2 ^ k)) (one-add n) ∙ ap ones (mod-pow-add list 1 n) ∙ ones-cat n (list / 2 ^ n % 2) (list % 2 ^ n) (mod-lt list (pow-pos n))
+    ap (λ (k : ℕ). ones (list % 2 ^ k)) (one-add n) ∙ ap ones (mod-pow-add list 1 n)
+    ∙ ones-cat n (list / 2 ^ n % 2) (list % 2 ^ n) (mod-lt list (pow-pos n))
   where
     one-add : (k : ℕ) → suc k ≡ 1 + k
     one-add k = omega arith

@@ -35,7 +35,8 @@ length-one-more l v = length-append l (v ∷ [])
 -- how many they are: one more where the bit is set
 pub length-next : (n list : ℕ) → length (listedBelow (suc n) list) ≡ length (listedBelow n list) + digit (bitOf list n)
 unfolding listedBelow
-length-next n list = length-append (listedBelow n list) (cond (bitOf list n) (n ∷ []) []) ∙ ap (λ (k : ℕ). length (listedBelow n list) + k) (one (bitOf list n))
+length-next n list = length-append (listedBelow n list) (cond (bitOf list n) (n ∷ []) [])
+    ∙ ap (λ (k : ℕ). length (listedBelow n list) + k) (one (bitOf list n))
   where
     one : (b : Bool) → length (cond b (n ∷ []) []) ≡ digit b
     one true = refl

@@ -33,7 +33,8 @@ listed-below : (list n : ℕ) → n ≤ 16 → allBelow 16 (listedBelow n list) 
 unfolding listedBelow
 listed-below list zero h = refl
 listed-below list (suc n) h =
-    below-both 16 (listedBelow n list) (cond (bitOf list n) (n ∷ []) []) ∙ both-hold (listed-below list n (omega arith)) (one (bitOf list n))
+    below-both 16 (listedBelow n list) (cond (bitOf list n) (n ∷ []) [])
+    ∙ both-hold (listed-below list n (omega arith)) (one (bitOf list n))
   where
     one : (b : Bool) → allBelow 16 (cond b (n ∷ []) []) ≡ true
     one true = both-hold (lt-ltb n 16 (omega arith)) refl
@@ -64,11 +65,13 @@ registers-below (Fields.Immediate r) h =
     let all = sym (legal-immediate r) ∙ h in
     let low = and-left (ltb (r .cond) 15 && ltb (r .rn) 16 && ltb t 16 && fits) (formRule (Fields.Immediate r)) all in
     let rule = immediate-by back (r .rn) t (r .transfer)
-    ∙ and-right (pwRule (r .p) (r .w)) (immediateRule (r .transfer) back (r .rn) t) (and-right (ltb (r .cond) 15 && ltb (r .rn) 16 && ltb t 16 && fits) (formRule (Fields.Immediate r)) all) in
+    ∙ and-right (pwRule (r .p) (r .w)) (immediateRule (r .transfer) back (r .rn) t)
+    (and-right (ltb (r .cond) 15 && ltb (r .rn) 16 && ltb t 16 && fits) (formRule (Fields.Immediate r)) all) in
     transferred-below (r .transfer) t
     (and-right (ltb (r .cond) 15 && ltb (r .rn) 16) (ltb t 16) (and-left (ltb (r .cond) 15 && ltb (r .rn) 16 && ltb t 16) fits low))
     (and-left (targetRule (r .transfer) t) (not (loads (r .transfer) && eqb (r .rn) 15))
-    (and-left (targetRule (r .transfer) t && not (loads (r .transfer) && eqb (r .rn) 15)) (backRule back (r .rn) (transferredBy (r .transfer) t)) rule))
+    (and-left (targetRule (r .transfer) t && not (loads (r .transfer) && eqb (r .rn) 15))
+    (backRule back (r .rn) (transferredBy (r .transfer) t)) rule))
 registers-below (Fields.Register r) h =
     let t = r .rt in
     let m = r .rm in
@@ -77,7 +80,8 @@ registers-below (Fields.Register r) h =
     let low = and-left (ltb (r .cond) 15 && ltb (r .rn) 16 && ltb t 16 && ltb m 16) (formRule (Fields.Register r)) all in
     let over = not (dual (r .transfer) && loads (r .transfer) && among (pair t) m) in
     let rule = register-by back (r .rn) t m (r .transfer)
-    ∙ and-right (pwRule (r .p) (r .w)) (registerRule (r .transfer) back (r .rn) t m) (and-right (ltb (r .cond) 15 && ltb (r .rn) 16 && ltb t 16 && ltb m 16) (formRule (Fields.Register r)) all) in
+    ∙ and-right (pwRule (r .p) (r .w)) (registerRule (r .transfer) back (r .rn) t m)
+    (and-right (ltb (r .cond) 15 && ltb (r .rn) 16 && ltb t 16 && ltb m 16) (formRule (Fields.Register r)) all) in
     transferred-below (r .transfer) t
     (and-right (ltb (r .cond) 15 && ltb (r .rn) 16) (ltb t 16) (and-left (ltb (r .cond) 15 && ltb (r .rn) 16 && ltb t 16) (ltb m 16) low))
     (and-right over (targetRule (r .transfer) t)
@@ -108,7 +112,8 @@ pub list-some : (r : Multiple) → legal (Fields.Multiple r) ≡ true → 4 ≤ 
 list-some r h =
     let base = not (eqb (r .rn) 15) in
     let filled = not (eqb (r .list) 0) in
-    let rule = and-right (ltb (r .cond) 15 && ltb (r .rn) 16 && ltb (r .list) 65536) (formRule (Fields.Multiple r)) (sym (legal-multiple r) ∙ h) in
+    let rule = and-right (ltb (r .cond) 15 && ltb (r .rn) 16 && ltb (r .list) 65536) (formRule (Fields.Multiple r))
+    (sym (legal-multiple r) ∙ h) in
     let loaded = not (r .load && r .w && bitOf (r .list) (r .rn)) in
     let other = eqb-false (r .list) 0 (not-true _ (and-right base filled (and-left (base && filled) loaded rule))) in
     omega (arith, some-one (r .list) (r .list) (omega arith) (positive (r .list) other))

@@ -1,5 +1,5 @@
--- What a load or store does (02, C-18), from the registers, the PC and the mode: its fields, the number of its registers, the first address and the
--- change of the base.
+-- What a load or store does (02, C-18), from the registers, the PC and the mode: its fields, the number of its registers, the first address
+-- and the change of the base.
 use Prim.Native.Nat.{ℕ}
 use mathlib.Core.List.{List}
 use Rattle.a32_fields.specs.declared.kinds.Fields.{Fields}

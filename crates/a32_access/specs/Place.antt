@@ -1,4 +1,5 @@
--- The first address and the change of the base (02, C-18), from the base's value and the size of the offset. U adds the offset, or else subtracts it.
+-- The first address and the change of the base (02, C-18), from the base's value and the size of the offset. U adds the offset, or else
+-- subtracts it.
 use Prim.Native.Nat.{ℕ, _-_, _*_}
 use mathlib.Core.Bool.{Bool, false, cond}
 use mathlib.Core.List.{List}
@@ -36,8 +37,8 @@ backOf (Fields.Register r) = writesBack (r .p) (r .w)
 backOf (Fields.Literal r) = false
 backOf (Fields.Multiple r) = r .w
 
--- a list's first address is above the base by 4 (IB) or nothing (IA), or below it by the whole size (DB) or 4 less (DA); a legal list has some
--- register, so its size is at least 4 (`list-some`, proofs/Counts.antt)
+-- a list's first address is above the base by 4 (IB) or nothing (IA), or below it by the whole size (DB) or 4 less (DA); a legal list has
+-- some register, so its size is at least 4 (`list-some`, proofs/Counts.antt)
 abbrev pub listDistance : Bool → Bool → ℕ → ℕ
 listDistance p u size = cond u (cond p 4 0) (cond p size (size - 4))
 

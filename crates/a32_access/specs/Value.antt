@@ -1,5 +1,5 @@
--- What a register of the guest reads as (02, C-18): register 15 is PC plus 8; every other stands in the state where the mode's mapping says (status,
--- specs/Register.antt).
+-- What a register of the guest reads as (02, C-18): register 15 is PC plus 8; every other stands in the state where the mode's mapping says
+-- (status, specs/Register.antt).
 use Prim.Native.Nat.{ℕ, _+_, _*_, _/_, _%_, _^_}
 use mathlib.Core.Bool.{cond}
 use mathlib.Core.List.{List}

@@ -1,4 +1,5 @@
-// What an A32 load or store does with the registers of a mode: which it transfers, how many, from which address on, and what becomes of its base.
+// What an A32 load or store does with the registers of a mode: which it transfers, how many, from which address on, and what becomes of its
+// base.
 mod access;
 mod place;
 mod registers;

@@ -1,5 +1,5 @@
--- The fields at the bits of the word of some fields, which fit and whose form is their own, are those fields. One law over layouts, `all-back`, gives every field; each form reads its own off.
--- Assumes nothing.
+-- The fields at the bits of the word of some fields, which fit and whose form is their own, are those fields. One law over layouts,
+-- `all-back`, gives every field; each form reads its own off. Assumes nothing.
 use mathlib.Core.Path.{_≡_, refl, _∙_, sym, ap, ap₂}
 use mathlib.Core.Bool.{Bool, true, false, cond, not, _&&_}
 use Prim.Native.Nat.{ℕ, _+_, _*_, _/_, _%_, _^_, _<_}
@@ -11,7 +11,8 @@ use Rattle.bits.specs.Inner.{joinedFrom}
 use Rattle.bits.proofs.Fields.{AllBack, all-back, word-below, joined-word, flag-back}
 use Rattle.a32_fields.specs.Code.{codeOf, loads}
 use Rattle.a32_fields.specs.Layout.{offsetFields, indexFields, fieldsOf, fieldsWord}
-use Rattle.a32_fields.specs.Split.{wordTransfer, extraTransfer, immediateAt, literalAt, registerAt, offsetAt, extraTransferAt, groupAt, fieldsAt}
+use Rattle.a32_fields.specs.Split.{wordTransfer, extraTransfer, immediateAt, literalAt, registerAt, offsetAt, extraTransferAt}
+use Rattle.a32_fields.specs.Split.{groupAt, fieldsAt}
 use Rattle.a32_fields.specs.declared.kinds.Transfer.{Transfer}
 use Rattle.a32_fields.specs.declared.kinds.Transfer.the-variants.{Ldr, Str, Ldrb, Strb, Ldrh, Strh, Ldrsb, Ldrsh, Ldrd, Strd}
 use Rattle.a32_fields.specs.declared.kinds.Code.{Code}
@@ -72,7 +73,8 @@ halves word imm high low = ap₂ (λ (x y : ℕ). x * 16 + y) high low ∙ div-a
 -- halfwords, signed and dual transfers by bit 22
 abbrev by-bit22 : ℕ → Bool → Fields
 by-bit22 word b =
-    cond b (offsetAt (extraTransferAt word) (fieldOf word 11 8 * 16 + fieldOf word 3 0) word) (Fields.Register (registerAt (extraTransferAt word) word))
+    cond b (offsetAt (extraTransferAt word) (fieldOf word 11 8 * 16 + fieldOf word 3 0) word)
+    (Fields.Register (registerAt (extraTransferAt word) word))
 
 module _ (word : ℕ) where
   -- a word that holds the fields of an immediate offset: what it says of the transfer and the immediate, and each field
@@ -85,13 +87,15 @@ module _ (word : ℕ) where
     pub rn-back : fieldOf word 19 16 ≡ rn
     pub rt-back : fieldOf word 15 12 ≡ rt
 
-  offset-back : (k : Code) (cond : ℕ) (p u w : Bool) (rn rt imm : ℕ) → AllBack word (offsetFields k cond p u w rn rt imm) → OffsetBack k cond p u w rn rt imm
+  offset-back : (k : Code) (cond : ℕ) (p u w : Bool) (rn rt imm : ℕ) → AllBack word (offsetFields k cond p u w rn rt imm)
+      → OffsetBack k cond p u w rn rt imm
   unfolding groupAt
   offset-back (Word b l) cond p u w rn rt imm a =
       record {
         as-offset =
             ap (λ (g : ℕ). groupAt g word) (a .1 .0)
-            ∙ (λ i. offsetAt (wordTransfer (flag-back word 22 b (a .1 .1 .1 .1 .0) i) (flag-back word 20 l (a .1 .1 .1 .1 .1 .1 .0) i)) (a .1 .1 .1 .1 .1 .1 .1 .1 .1 .0 i) word);
+            ∙ (λ i. offsetAt (wordTransfer (flag-back word 22 b (a .1 .1 .1 .1 .0) i) (flag-back word 20 l (a .1 .1 .1 .1 .1 .1 .0) i))
+            (a .1 .1 .1 .1 .1 .1 .1 .1 .1 .0 i) word);
         cond-back = a .0;
         p-back = flag-back word 24 p (a .1 .1 .0);
         u-back = flag-back word 23 u (a .1 .1 .1 .0);
@@ -105,7 +109,8 @@ module _ (word : ℕ) where
         as-offset =
             ap (λ (g : ℕ). groupAt g word) (a .1 .0)
             ∙ ap (by-bit22 word) (flag-back word 22 true (a .1 .1 .1 .1 .0))
-            ∙ (λ i. offsetAt (extraTransfer (flag-back word 6 s (tail .1 .1 .0) i) (flag-back word 5 h (tail .1 .1 .1 .0) i) (flag-back word 20 l (a .1 .1 .1 .1 .1 .1 .0) i))
+            ∙ (λ i. offsetAt (extraTransfer (flag-back word 6 s (tail .1 .1 .0) i) (flag-back word 5 h (tail .1 .1 .1 .0) i)
+            (flag-back word 20 l (a .1 .1 .1 .1 .1 .1 .0) i))
             (halves word imm (a .1 .1 .1 .1 .1 .1 .1 .1 .1 .0) (tail .1 .1 .1 .1 .1 .0) i) word);
         cond-back = a .0;
         p-back = flag-back word 24 p (a .1 .1 .0);
@@ -126,13 +131,15 @@ module _ (word : ℕ) where
     pub rt-back : fieldOf word 15 12 ≡ rt
     pub rm-back : fieldOf word 3 0 ≡ rm
 
-  index-back : (k : Code) (cond : ℕ) (p u w : Bool) (rn rt rm : ℕ) → AllBack word (indexFields k cond p u w rn rt rm) → IndexBack k cond p u w rn rt rm
+  index-back : (k : Code) (cond : ℕ) (p u w : Bool) (rn rt rm : ℕ) → AllBack word (indexFields k cond p u w rn rt rm)
+      → IndexBack k cond p u w rn rt rm
   unfolding groupAt
   index-back (Word b l) cond p u w rn rt rm a =
       record {
         as-register =
             ap (λ (g : ℕ). groupAt g word) (a .1 .0)
-            ∙ (λ i. Fields.Register (registerAt (wordTransfer (flag-back word 22 b (a .1 .1 .1 .1 .0) i) (flag-back word 20 l (a .1 .1 .1 .1 .1 .1 .0) i)) word));
+            ∙ (λ i. Fields.Register (registerAt (wordTransfer (flag-back word 22 b (a .1 .1 .1 .1 .0) i)
+            (flag-back word 20 l (a .1 .1 .1 .1 .1 .1 .0) i)) word));
         cond-back = a .0;
         p-back = flag-back word 24 p (a .1 .1 .0);
         u-back = flag-back word 23 u (a .1 .1 .1 .0);
@@ -147,7 +154,8 @@ module _ (word : ℕ) where
         as-register =
             ap (λ (g : ℕ). groupAt g word) (a .1 .0)
             ∙ ap (by-bit22 word) (flag-back word 22 false (a .1 .1 .1 .1 .0))
-            ∙ (λ i. Fields.Register (registerAt (extraTransfer (flag-back word 6 s (tail .1 .1 .0) i) (flag-back word 5 h (tail .1 .1 .1 .0) i) (flag-back word 20 l (a .1 .1 .1 .1 .1 .1 .0) i)) word));
+            ∙ (λ i. Fields.Register (registerAt (extraTransfer (flag-back word 6 s (tail .1 .1 .0) i)
+            (flag-back word 5 h (tail .1 .1 .1 .0) i) (flag-back word 20 l (a .1 .1 .1 .1 .1 .1 .0) i)) word));
         cond-back = a .0;
         p-back = flag-back word 24 p (a .1 .1 .0);
         u-back = flag-back word 23 u (a .1 .1 .1 .0);
@@ -164,7 +172,8 @@ module _ (word : ℕ) where
       let b = offset-back (codeOf (r .transfer)) (r .cond) (r .p) (r .u) (r .w) (r .rn) (r .rt) (r .imm) a in
       b .as-offset
       ∙ ap (λ (t : Transfer). offsetAt t (r .imm) word) (named-back (r .transfer))
-      ∙ ap (λ (l : Bool). cond l (Fields.Literal (literalAt (r .transfer) (r .imm) word)) (Fields.Immediate (immediateAt (r .transfer) (r .imm) word)))
+      ∙ ap (λ (l : Bool). cond l (Fields.Literal (literalAt (r .transfer) (r .imm) word))
+      (Fields.Immediate (immediateAt (r .transfer) (r .imm) word)))
       (ap (λ (n : ℕ). loads (r .transfer) && eqb n 15) (b .rn-back) ∙ not-back (loads (r .transfer) && eqb (r .rn) 15) own)
       ∙ ap Fields.Immediate
       (λ i. record {
@@ -195,7 +204,8 @@ module _ (word : ℕ) where
       let b = offset-back (codeOf (r .transfer)) (r .cond) true (r .u) false 15 (r .rt) (r .imm) a in
       b .as-offset
       ∙ ap (λ (t : Transfer). offsetAt t (r .imm) word) (named-back (r .transfer))
-      ∙ ap (λ (l : Bool). cond l (Fields.Literal (literalAt (r .transfer) (r .imm) word)) (Fields.Immediate (immediateAt (r .transfer) (r .imm) word)))
+      ∙ ap (λ (l : Bool). cond l (Fields.Literal (literalAt (r .transfer) (r .imm) word))
+      (Fields.Immediate (immediateAt (r .transfer) (r .imm) word)))
       (ap₂ (λ (l : Bool) (n : ℕ). l && eqb n 15) own (b .rn-back))
       ∙ ap Fields.Literal
       (λ i. record {

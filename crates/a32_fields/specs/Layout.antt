@@ -1,6 +1,6 @@
--- Where each form's fields stand in the word (02, C-18; the manual's encodings A1). Bits that no line names are 0: of a word or byte with a register
--- offset imm5 and type, bits 11:5 (LSL by 0, so a plain register), and bit 4; of the others with one bits 11:8. Form by form, the condition c, Rn n,
--- Rt t, Rm m, an immediate i and a list r:
+-- Where each form's fields stand in the word (02, C-18; the manual's encodings A1). Bits that no line names are 0: of a word or byte with a
+-- register offset imm5 and type, bits 11:5 (LSL by 0, so a plain register), and bit 4; of the others with one bits 11:8. Form by form, the
+-- condition c, Rn n, Rt t, Rm m, an immediate i and a list r:
 --
 --               with an immediate                  with a register                    literal
 --     LDR       cccc010pu0w1nnnnttttiiiiiiiiiiii   cccc011pu0w1nnnntttt00000000mmmm   cccc0101u0011111ttttiiiiiiiiiiii

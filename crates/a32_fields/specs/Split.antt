@@ -1,5 +1,5 @@
--- The fields at a word's bits, by the group in 27:25 (Layout.antt read the other way). Nothing here has to be believed beside those lines: it takes the
--- word of fields that fit, and whose form is their own, back to them (`fields-back`, proofs/RoundTrip.antt).
+-- The fields at a word's bits, by the group in 27:25 (Layout.antt read the other way). Nothing here has to be believed beside those lines:
+-- it takes the word of fields that fit, and whose form is their own, back to them (`fields-back`, proofs/RoundTrip.antt).
 use Prim.Native.Nat.{ℕ, _+_, _*_}
 use mathlib.Core.Bool.{Bool, cond, _&&_}
 use lib.Dec.{eqb}
@@ -65,7 +65,8 @@ multipleAt w =
 -- a load with base 15 is a literal
 abbrev pub offsetAt : Transfer → ℕ → ℕ → Fields
 offsetAt transfer imm w =
-    cond (loads transfer && eqb (fieldOf w 19 16) 15) (Fields.Literal (literalAt transfer imm w)) (Fields.Immediate (immediateAt transfer imm w))
+    cond (loads transfer && eqb (fieldOf w 19 16) 15) (Fields.Literal (literalAt transfer imm w))
+    (Fields.Immediate (immediateAt transfer imm w))
 
 abbrev pub wordTransferAt : ℕ → Transfer
 wordTransferAt w = wordTransfer (bitOf w 22) (bitOf w 20)
@@ -75,7 +76,8 @@ extraTransferAt w = extraTransfer (bitOf w 6) (bitOf w 5) (bitOf w 20)
 
 abbrev pub extraAt : ℕ → Fields
 extraAt w =
-    cond (bitOf w 22) (offsetAt (extraTransferAt w) (fieldOf w 11 8 * 16 + fieldOf w 3 0) w) (Fields.Register (registerAt (extraTransferAt w) w))
+    cond (bitOf w 22) (offsetAt (extraTransferAt w) (fieldOf w 11 8 * 16 + fieldOf w 3 0) w)
+    (Fields.Register (registerAt (extraTransferAt w) w))
 
 unfoldable pub groupAt : ℕ → ℕ → Fields
 groupAt group w =

@@ -2,7 +2,8 @@
 ghost use mathlib.Core.Path.{_≡_};
 ghost use mathlib.Core.List.{[]};
 ghost use Rattle.bits.specs.Inner.{joinedFrom};
-ghost use Rattle.a32_fields.specs.Layout.{head, offsetFields, indexFields, immediateFields, literalFields, registerFields, multipleFields, fieldsOf};
+ghost use Rattle.a32_fields.specs.Layout.{head, offsetFields, indexFields, immediateFields, literalFields, registerFields};
+ghost use Rattle.a32_fields.specs.Layout.{multipleFields, fieldsOf};
 use super::kinds::Code;
 use super::kinds::Fields;
 use super::kinds::Immediate;

@@ -1,5 +1,5 @@
-// The fields of an A32 load or store, by its form. Fields can hold what no word has, as a register number of 40 or a list of none, so that the
-// writer can refuse them.
+// The fields of an A32 load or store, by its form. Fields can hold what no word has, as a register number of 40 or a list of none, so that
+// the writer can refuse them.
 
 // What is transferred, and which way.
 pub enum Transfer {

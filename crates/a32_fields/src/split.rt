@@ -1,7 +1,8 @@
 // A word taken apart by the layout of its group. Nothing is judged here.
 ghost use mathlib.Core.Path.{_≡_};
 ghost use mathlib.Core.Bool.{cond};
-ghost use Rattle.a32_fields.specs.Split.{wordTransfer, extraTransfer, immediateAt, literalAt, registerAt, multipleAt, offsetAt, wordTransferAt, extraTransferAt, extraAt, groupAt, fieldsAt};
+ghost use Rattle.a32_fields.specs.Split.{wordTransfer, extraTransfer, immediateAt, literalAt, registerAt, multipleAt, offsetAt};
+ghost use Rattle.a32_fields.specs.Split.{wordTransferAt, extraTransferAt, extraAt, groupAt, fieldsAt};
 ghost use Rattle.a32_fields.specs.declared.kinds.Transfer.the-variants.{Ldrsb, Ldrsh, Ldrd, Strd};
 use super::kinds::Fields;
 use super::kinds::Immediate;

@@ -30,7 +30,8 @@ module _ (w : ℕ) where
       by true h = ap (λ (n : ℕ). eqb n w && legal (fieldsAt w)) (sym (joined-fields (fieldsAt w) (legal-fits (fieldsAt w) h)))
       by false h =
           ap (λ (b : Bool). eqb (fieldsWord (fieldsAt w)) w && b) h ∙ and-false (eqb (fieldsWord (fieldsAt w)) w)
-          ∙ sym (ap (λ (b : Bool). eqb (joinedFrom 0 (fieldsOf (fieldsAt w))) w && b) h ∙ and-false (eqb (joinedFrom 0 (fieldsOf (fieldsAt w))) w))
+          ∙ sym (ap (λ (b : Bool). eqb (joinedFrom 0 (fieldsOf (fieldsAt w))) w && b) h
+          ∙ and-false (eqb (joinedFrom 0 (fieldsOf (fieldsAt w))) w))
 
   -- the test as the code has it
   tested : {f : Fields} {j : ℕ} {l : Bool} → f ≡ fieldsAt w → j ≡ joinedFrom 0 (fieldsOf f) → l ≡ legal f → (eqb j w && l) ≡ isForm w
@@ -60,7 +61,8 @@ module _ (w : ℕ) where
   decodes same = subst (Decoding w) (sym same) decoding
 
   -- the two ways in which the code answers
-  pub taken : {f : Fields} {j : ℕ} {l : Bool} → f ≡ fieldsAt w → j ≡ joinedFrom 0 (fieldsOf f) → j ≡ w → l ≡ legal f → l ≡ true → Decoding w (Decoded.Taken f)
+  pub taken : {f : Fields} {j : ℕ} {l : Bool} → f ≡ fieldsAt w → j ≡ joinedFrom 0 (fieldsOf f) → j ≡ w → l ≡ legal f → l ≡ true
+      → Decoding w (Decoded.Taken f)
   taken {f} {j} at put same law is =
       decodes (ap Decoded.Taken at ∙ sym (decode-taken (sym (tested at put law) ∙ ap₂ _&&_ (eq-eqb j w same) is)))
 
@@ -68,7 +70,8 @@ module _ (w : ℕ) where
   unlike {f} {j} at put other =
       decodes (sym (decode-refused (sym (tested at put refl) ∙ ap (λ (b : Bool). b && legal f) (ne-eqb j w other))))
 
-  pub unlawful : {f : Fields} {j : ℕ} {l : Bool} → f ≡ fieldsAt w → j ≡ joinedFrom 0 (fieldsOf f) → l ≡ legal f → l ≡ false → Decoding w Decoded.Refused
+  pub unlawful : {f : Fields} {j : ℕ} {l : Bool} → f ≡ fieldsAt w → j ≡ joinedFrom 0 (fieldsOf f) → l ≡ legal f → l ≡ false
+      → Decoding w Decoded.Refused
   unlawful {f} {j} at put law isn't =
       decodes (sym (decode-refused (sym (tested at put law) ∙ ap (λ (b : Bool). eqb j w && b) isn't ∙ and-false (eqb j w))))
 

@@ -38,14 +38,16 @@ below-fifteen c = by (ltb c 15) refl (ltb c 16) refl
 -- an imm8 in two halves
 halves-fit : (imm : ℕ) → (ltb (imm / 16) 16 && (ltb (imm % 16) 16 && true)) ≡ ltb imm 256
 halves-fit imm =
-    ap (λ (b : Bool). ltb (imm / 16) 16 && (b && true)) (lt-ltb (imm % 16) 16 (omega arith)) ∙ and-true (ltb (imm / 16) 16) ∙ by (ltb imm 256) refl
+    ap (λ (b : Bool). ltb (imm / 16) 16 && (b && true)) (lt-ltb (imm % 16) 16 (omega arith)) ∙ and-true (ltb (imm / 16) 16)
+    ∙ by (ltb imm 256) refl
   where
     by : (b : Bool) → ltb imm 256 ≡ b → ltb (imm / 16) 16 ≡ ltb imm 256
     by true h = let l = ltb-true imm 256 h in lt-ltb (imm / 16) 16 (omega arith) ∙ sym h
     by false h = let l = ltb-false imm 256 h in le-ltb (imm / 16) 16 (omega arith) ∙ sym h
 
 module _ (c : ℕ) (p u w : Bool) (n t : ℕ) where
-  offset-fits : (k : Code) (imm : ℕ) → fitting (offsetFields k c p u w n t imm) ≡ (ltb c 16 && (ltb n 16 && (ltb t 16 && immediateFits k imm)))
+  offset-fits : (k : Code) (imm : ℕ) → fitting (offsetFields k c p u w n t imm)
+      ≡ (ltb c 16 && (ltb n 16 && (ltb t 16 && immediateFits k imm)))
   offset-fits (Word b l) imm = ap (λ (x : Bool). ltb c 16 && (ltb n 16 && (ltb t 16 && x))) (and-true (ltb imm 4096))
   offset-fits (Extra s h l) imm = ap (λ (x : Bool). ltb c 16 && (ltb n 16 && (ltb t 16 && x))) (halves-fit imm)
 
@@ -65,11 +67,13 @@ in-row a b d e = sym (and-assoc a b (d && e)) ∙ sym (and-assoc (a && b) d e)
 
 pub legal-immediate : (r : Immediate)
     → legal (Fields.Immediate r)
-    ≡ (ltb (r .cond) 15 && ltb (r .rn) 16 && ltb (r .rt) 16 && immediateFits (codeOf (r .transfer)) (r .imm) && formRule (Fields.Immediate r))
+    ≡ (ltb (r .cond) 15 && ltb (r .rn) 16 && ltb (r .rt) 16 && immediateFits (codeOf (r .transfer)) (r .imm)
+    && formRule (Fields.Immediate r))
 unfolding legal
 legal-immediate r =
     ap (λ (b : Bool). b && formRule (Fields.Immediate r))
-    (ap (λ (b : Bool). not (eqb (r .cond) 15) && b) (offset-fits (r .cond) (r .p) (r .u) (r .w) (r .rn) (r .rt) (codeOf (r .transfer)) (r .imm))
+    (ap (λ (b : Bool). not (eqb (r .cond) 15) && b)
+    (offset-fits (r .cond) (r .p) (r .u) (r .w) (r .rn) (r .rt) (codeOf (r .transfer)) (r .imm))
     ∙ condition-first (r .cond) (ltb (r .rn) 16 && (ltb (r .rt) 16 && immediateFits (codeOf (r .transfer)) (r .imm)))
     ∙ in-row (ltb (r .cond) 15) (ltb (r .rn) 16) (ltb (r .rt) 16) (immediateFits (codeOf (r .transfer)) (r .imm)))
 
@@ -78,12 +82,14 @@ pub legal-register : (r : Register)
 unfolding legal
 legal-register r =
     ap (λ (b : Bool). b && formRule (Fields.Register r))
-    (ap (λ (b : Bool). not (eqb (r .cond) 15) && b) (index-fits (r .cond) (r .p) (r .u) (r .w) (r .rn) (r .rt) (codeOf (r .transfer)) (r .rm))
+    (ap (λ (b : Bool). not (eqb (r .cond) 15) && b)
+    (index-fits (r .cond) (r .p) (r .u) (r .w) (r .rn) (r .rt) (codeOf (r .transfer)) (r .rm))
     ∙ condition-first (r .cond) (ltb (r .rn) 16 && (ltb (r .rt) 16 && ltb (r .rm) 16))
     ∙ in-row (ltb (r .cond) 15) (ltb (r .rn) 16) (ltb (r .rt) 16) (ltb (r .rm) 16))
 
 pub legal-literal : (r : Literal)
-    → legal (Fields.Literal r) ≡ (ltb (r .cond) 15 && ltb (r .rt) 16 && immediateFits (codeOf (r .transfer)) (r .imm) && formRule (Fields.Literal r))
+    → legal (Fields.Literal r) ≡ (ltb (r .cond) 15 && ltb (r .rt) 16 && immediateFits (codeOf (r .transfer)) (r .imm)
+    && formRule (Fields.Literal r))
 unfolding legal
 legal-literal r =
     ap (λ (b : Bool). b && formRule (Fields.Literal r))

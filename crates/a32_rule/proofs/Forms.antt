@@ -1,5 +1,5 @@
--- The laws of forms for A32 loads and stores: a word is taken exactly when some legal fields make it, writing them gives the same word, two legal sets of
--- fields that make one word are one, and each number comes exactly when its test says so.
+-- The laws of forms for A32 loads and stores: a word is taken exactly when some legal fields make it, writing them gives the same word, two
+-- legal sets of fields that make one word are one, and each number comes exactly when its test says so.
 -- Assumes nothing.
 use mathlib.Core.Path.{_≡_, refl, _∙_, sym, ap}
 use mathlib.Core.Bool.{Bool, true, false}

@@ -21,9 +21,11 @@ use Rattle.a32_rule.proofs.Fits.{legal-multiple}
 own-by-rule : (f : Fields) → formRule f ≡ true → ownForm f ≡ true
 own-by-rule (Fields.Immediate r) h =
     let back = writesBack (r .p) (r .w) in
-    let rule = immediate-by back (r .rn) (r .rt) (r .transfer) ∙ and-right (pwRule (r .p) (r .w)) (immediateRule (r .transfer) back (r .rn) (r .rt)) h in
+    let rule = immediate-by back (r .rn) (r .rt) (r .transfer)
+    ∙ and-right (pwRule (r .p) (r .w)) (immediateRule (r .transfer) back (r .rn) (r .rt)) h in
     and-right (targetRule (r .transfer) (r .rt)) (not (loads (r .transfer) && eqb (r .rn) 15))
-    (and-left (targetRule (r .transfer) (r .rt) && not (loads (r .transfer) && eqb (r .rn) 15)) (backRule back (r .rn) (transferredBy (r .transfer) (r .rt))) rule)
+    (and-left (targetRule (r .transfer) (r .rt) && not (loads (r .transfer) && eqb (r .rn) 15))
+    (backRule back (r .rn) (transferredBy (r .transfer) (r .rt))) rule)
 own-by-rule (Fields.Register r) h = refl
 own-by-rule (Fields.Literal r) h = and-left (loads (r .transfer)) (targetRule (r .transfer) (r .rt)) (literal-by (r .rt) (r .transfer) ∙ h)
 own-by-rule (Fields.Multiple r) h = refl

@@ -1,5 +1,5 @@
--- Legal fields (02, C-18): those of some word among these forms whose decoding the manual doesn't call UNPREDICTABLE. The condition isn't 1111, each
--- field fits its bits, and the form's own rule holds.
+-- Legal fields (02, C-18): those of some word among these forms whose decoding the manual doesn't call UNPREDICTABLE. The condition isn't
+-- 1111, each field fits its bits, and the form's own rule holds.
 use Prim.Native.Nat.{ℕ}
 use mathlib.Core.Bool.{Bool, not, _&&_}
 use lib.Dec.{eqb}

@@ -1,5 +1,5 @@
--- The rules of the forms (02, C-18), one by one, from the decoding of each encoding A1: each is true where the manual calls the fields neither
--- UNPREDICTABLE nor another instruction. n, t and m are the numbers of Rn, Rt and Rm; `back` says that the base is written back.
+-- The rules of the forms (02, C-18), one by one, from the decoding of each encoding A1: each is true where the manual calls the fields
+-- neither UNPREDICTABLE nor another instruction. n, t and m are the numbers of Rn, Rt and Rm; `back` says that the base is written back.
 use Prim.Native.Nat.{ℕ, _+_, _%_}
 use mathlib.Core.Bool.{Bool, true, false, not, _&&_, _||_}
 use mathlib.Core.List.{List, [], _∷_}

@@ -26,7 +26,8 @@ unknown-intermediate Addresses.Virtual h = absurd (true≢false h)
 unknown-intermediate (Addresses.Abort fnv s1ptw code) h = no-virtual fnv s1ptw code h
 
 -- no intermediate address where HPFAR doesn't count
-pub intermediate-hidden : (a : Addresses) (far : Far) (hpfar : Hpfar) → hpfarCounts a ≡ false → intermediateOf a far hpfar ≡ IntermediateAddress.None
+pub intermediate-hidden : (a : Addresses) (far : Far) (hpfar : Hpfar) → hpfarCounts a ≡ false
+    → intermediateOf a far hpfar ≡ IntermediateAddress.None
 intermediate-hidden Addresses.None far hpfar h = refl
 intermediate-hidden Addresses.Virtual far hpfar h = refl
 intermediate-hidden (Addresses.Abort fnv s1ptw code) far hpfar h =

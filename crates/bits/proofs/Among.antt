@@ -1,5 +1,5 @@
--- A number in a list: as code tests it, one test after the other joined by `|`; as an arm of a `match` has it; and what holds of each number of the list.
--- Assumes nothing.
+-- A number in a list: as code tests it, one test after the other joined by `|`; as an arm of a `match` has it; and what holds of each
+-- number of the list. Assumes nothing.
 use mathlib.Core.Path.{_≡_, refl, _∙_, sym, ap, subst}
 use mathlib.Core.Bool.{Bool, true, false, not, _&&_, _||_, true≢false}
 use mathlib.Core.List.{List, [], _∷_}

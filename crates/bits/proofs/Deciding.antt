@@ -11,7 +11,8 @@ use Rattle.bits.specs.Decide.{Test, needs, decide, relabel, AllPass, Eit
 use Rattle.bits.proofs.Booleans.{both-left, both-right}
 
 -- an answer of the answer is the answer of the tests with that answer
-pub decide-relabel : {A B : Type 0} (f : A → B) (tests : List (Test A)) (last : A) → f (decide tests last) ≡ decide (relabel f tests) (f last)
+pub decide-relabel : {A B : Type 0} (f : A → B) (tests : List (Test A)) (last : A)
+    → f (decide tests last) ≡ decide (relabel f tests) (f last)
 decide-relabel f [] last = refl
 decide-relabel f (needs true answer ∷ tests) last = decide-relabel f tests last
 decide-relabel f (needs false answer ∷ tests) last = refl
@@ -22,7 +23,8 @@ decide-append [] rest last = refl
 decide-append (needs true answer ∷ first) rest last = decide-append first rest last
 decide-append (needs false answer ∷ first) rest last = refl
 
-pub relabel-append : {A B : Type 0} (f : A → B) (first rest : List (Test A)) → relabel f (first ++ rest) ≡ (relabel f first ++ relabel f rest)
+pub relabel-append : {A B : Type 0} (f : A → B) (first rest : List (Test A))
+    → relabel f (first ++ rest) ≡ (relabel f first ++ relabel f rest)
 relabel-append f [] rest = refl
 relabel-append f (needs passes answer ∷ first) rest = ap (λ l. needs passes (f answer) ∷ l) (relabel-append f first rest)
 

@@ -117,7 +117,8 @@ back-from top above (f ∷ fs) o t =
 
 -- THE ROUND TRIP of layouts: taking the word of the fields apart gives the fields' values
 pub all-back : (top : ℕ) (fs : List Field) → T (ordered top fs) → T (fitting fs) → AllBack (wordOf fs) fs
-all-back top fs o t = subst (λ (w : ℕ). AllBack w fs) (ap (λ (x : ℕ). x + wordOf fs) (zero-mul (2 ^ top)) ∙ zero-add (wordOf fs)) (back-from top 0 fs o t)
+all-back top fs o t = subst (λ (w : ℕ). AllBack w fs) (ap (λ (x : ℕ). x + wordOf fs) (zero-mul (2 ^ top)) ∙ zero-add (wordOf fs))
+    (back-from top 0 fs o t)
 
 -- a field at its bits, below the top and within 64 bits
 module _ (top : ℕ) (f : Field) (fs : List Field) where
@@ -126,7 +127,8 @@ module _ (top : ℕ) (f : Field) (fs : List Field) where
       subst (λ (k : ℕ). valueOf f * 2 ^ lowOf f < 2 ^ k) (sub-add-cancel (low≤top top f fs o))
       (shl-lt (top - lowOf f) (lowOf f) (value-below top f fs o t))
 
-  placed-fits : top ≤ 64 → T (ordered top (f ∷ fs)) → T (fitting (f ∷ fs)) → placedOf (valueOf f) (highOf f) (lowOf f) ≡ valueOf f * 2 ^ lowOf f
+  placed-fits : top ≤ 64 → T (ordered top (f ∷ fs)) → T (fitting (f ∷ fs))
+      → placedOf (valueOf f) (highOf f) (lowOf f) ≡ valueOf f * 2 ^ lowOf f
   placed-fits h o t =
       ap (λ (v : ℕ). v * 2 ^ lowOf f % 2 ^ 64) (mod-eq-of-lt (value-fits f fs t))
       ∙ mod-eq-of-lt (lt-of-lt-of-le (placed-below o t) (pow-mono h))
@@ -141,7 +143,8 @@ joined-from top above (f ∷ fs) h o t =
     ∙ or-shifted above top (valueOf f * 2 ^ lowOf f) (placed-below top f fs o t)
     ∙ ap (λ (x : ℕ). x + valueOf f * 2 ^ lowOf f) (shift-by-way above (low≤top top f fs o))
     ∙ sym (add-mul (above * 2 ^ (top - lowOf f)) (valueOf f) (2 ^ lowOf f)))
-    ∙ joined-from (lowOf f) (above * 2 ^ (top - lowOf f) + valueOf f) fs (omega (arith, low≤top top f fs o)) (rest-ordered top f fs o) (rest-fits f fs t)
+    ∙ joined-from (lowOf f) (above * 2 ^ (top - lowOf f) + valueOf f) fs (omega (arith, low≤top top f fs o)) (rest-ordered top f fs o)
+    (rest-fits f fs t)
     ∙ sym (regroup top above f fs (low≤top top f fs o))
 
 -- the fields put together by `|`, from nothing, are their word

@@ -1,5 +1,5 @@
--- Tests in their order (01, 'Numbers a call may answer'): the first test that fails gives its answer, and the last answer comes exactly when
--- none fails.
+-- Tests in their order (01, 'Numbers a call may answer'): the first test that fails gives its answer, and the last answer comes exactly
+-- when none fails.
 use mathlib.Core.Path.{_≡_}
 use mathlib.Core.Bool.{Bool, true, false, cond, not, _&&_}
 use mathlib.Core.List.{List, [], _∷_}

@@ -57,13 +57,22 @@ leaves s i p new-status new-link new-pc =
 -- an undefined instruction at PC, by the four registers that its case gives
 undefined : (s : Guest) (status pc vbar sctlr : ℕ) → Whole s → sound unmarked status ≡ true → aligned vbar ≡ true
     → s .status ≡ status → s .pc ≡ pc → s .vbar ≡ vbar → s .sctlr ≡ sctlr
-    → Leaves s UndefinedAt (entryStatus unmarked Undefined false false status sctlr) (sumOf pc (signed (correctionIn (injectionRow UndefinedAt) (t32 status))))
+    → Leaves s UndefinedAt (entryStatus unmarked Undefined false false status sctlr)
+    (sumOf pc (signed (correctionIn (injectionRow UndefinedAt) (t32 status))))
     ((vectorBase sctlr vbar + 0x04) % 2 ^ 32)
 unfolding entered
 undefined s status pc vbar sctlr whole is-sound is-aligned st p v sc =
     leaves s UndefinedAt
-    (record { status = ap₂ sound (whole .marks) st ∙ is-sound; vbar = ap aligned v ∙ is-aligned; fault = refl; domain = refl; address = refl })
-    (ap (λ (m : Marks). entryStatus m Undefined false false (s .status) (s .sctlr)) (whole .marks) ∙ ap₂ (entryStatus unmarked Undefined false false) st sc)
+    (record {
+      status = ap₂ sound (whole .marks) st ∙ is-sound;
+      vbar = ap aligned v
+          ∙ is-aligned;
+      fault = refl;
+      domain = refl;
+      address = refl;
+    })
+    (ap (λ (m : Marks). entryStatus m Undefined false false (s .status) (s .sctlr)) (whole .marks)
+    ∙ ap₂ (entryStatus unmarked Undefined false false) st sc)
     (link-held s (injectionRow UndefinedAt) (s .faults) (subst (λ (n : ℕ). 22 < n) (sym (whole .registers)) (lit< tt))
     ∙ ap₂ (λ (x y : ℕ). sumOf x (signed (correctionIn (injectionRow UndefinedAt) (t32 y)))) p st)
     (ap₂ (λ (x y : ℕ). (vectorBase x y + 0x04) % 2 ^ 32) sc v)
@@ -75,13 +84,23 @@ abort-correction a false = refl
 
 -- a data abort of a fault and an address that pass, with high vectors
 aborted : (s : Guest) (a : Access) (status sctlr : ℕ) → Passing s a → sound unmarked status ≡ true → bitOf sctlr 13 ≡ true
-    → s .status ≡ status → s .sctlr ≡ sctlr → Leaves s (DataAbort a) (entryStatus unmarked Abort true false status sctlr) (sumOf (s .pc) (pos 8)) 0xFFFF0010
+    → s .status ≡ status → s .sctlr ≡ sctlr → Leaves s (DataAbort a) (entryStatus unmarked Abort true false status sctlr)
+    (sumOf (s .pc) (pos 8)) 0xFFFF0010
 unfolding entered
 aborted s a status sctlr p is-sound high st sc =
     leaves s (DataAbort a)
-    (record { status = ap₂ sound (p .whole .marks) st ∙ is-sound; vbar = p .vbar; fault = p .fault; domain = p .domain; address = p .address })
-    (ap (λ (m : Marks). entryStatus m Abort true false (s .status) (s .sctlr)) (p .whole .marks) ∙ ap₂ (entryStatus unmarked Abort true false) st sc)
-    (link-held s (injectionRow (DataAbort a)) (faultsAfter (DataAbort a) (s .faults) (s .ttbcr)) (subst (λ (n : ℕ). 20 < n) (sym (p .whole .registers)) (lit< tt))
+    (record {
+      status = ap₂ sound (p .whole .marks) st
+          ∙ is-sound;
+      vbar = p .vbar;
+      fault = p .fault;
+      domain = p .domain;
+      address = p .address;
+    })
+    (ap (λ (m : Marks). entryStatus m Abort true false (s .status) (s .sctlr)) (p .whole .marks)
+    ∙ ap₂ (entryStatus unmarked Abort true false) st sc)
+    (link-held s (injectionRow (DataAbort a)) (faultsAfter (DataAbort a) (s .faults) (s .ttbcr))
+    (subst (λ (n : ℕ). 20 < n) (sym (p .whole .registers)) (lit< tt))
     ∙ ap (λ (c : Signed). sumOf (s .pc) (signed c)) (abort-correction a (t32 (s .status))))
     (ap (λ (b : Bool). (cond b 0xFFFF_0000 (s .vbar) + 0x10) % 2 ^ 32) (ap (λ (w : ℕ). bitOf w 13) sc ∙ high))
 
@@ -109,7 +128,13 @@ all-hold = (
                   (
                     (OtherEditions 43690 8, refl, refl, refl, refl),
                     (
-                      λ e h. (NoEdition, none-everywhere Origin.AArch32 (record { 0 = 0x92000810 }) e h refl refl refl refl, refl, refl, refl),
+                      λ e h. (
+                        NoEdition,
+                        none-everywhere Origin.AArch32 (record { 0 = 0x92000810 }) e h refl refl refl refl,
+                        refl,
+                        refl,
+                        refl,
+                      ),
                       (
                         (OtherEditions 21845 8, refl, refl, refl, refl),
                         (
@@ -119,7 +144,8 @@ all-hold = (
                             (
                               λ s a p st sc. aborted s a 0x10 0x42002000 p refl refl st sc,
                               (
-                                λ s a p st sc pc. aborted s a 0x10 0x42002000 p refl refl st sc .new-link ∙ ap (λ (n : ℕ). sumOf n (pos 8)) pc,
+                                λ s a p st sc pc. aborted s a 0x10 0x42002000 p refl refl st sc .new-link
+                                    ∙ ap (λ (n : ℕ). sumOf n (pos 8)) pc,
                                 tt,
                               ),
                             ),

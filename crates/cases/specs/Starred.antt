@@ -30,7 +30,8 @@ store-of-3 =
 abbrev pub starred : List Case
 starred =
     reads 0x02000000 taken ∷ reads 0x00000000 (refused 4 0 0)
-    ∷ reads 0x93830045 (record-read store-of-3) ∷ reads 0x91830005 taken ∷ reads 0x90000005 (refused 4 0 0) ∷ reads 0x93830085 (refused 5 0 0)
+    ∷ reads 0x93830045 (record-read store-of-3) ∷ reads 0x91830005 taken ∷ reads 0x90000005 (refused 4 0 0)
+    ∷ reads 0x93830085 (refused 5 0 0)
     ∷ reads-in 1 0x92000018 (refused 6 21845 8) ∷ reads-in 7 0x9200001B (refused 6 17476 4) ∷ reads-in 3 0x92000031 (refused 6 61680 8)
     ∷ reads-in 0 0x92001010 (refused 6 43690 8) ∷ reads 0x92000810 (refused 5 0 0) ∷ reads-in 1 0x93830014 (refused 6 21845 8)
     ∷ undefined-at record { status = 0x10; pc = 0x8000; vbar = 0x1000; sctlr = 0 } record { status = 0x9B; link = 0x8004; pc = 0x1004 }

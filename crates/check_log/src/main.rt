@@ -1,7 +1,7 @@
 // Answers the second program's questions on logs (second/src/log/questions.rs).
 //
-// A question is a letter and what it asks about: a log to be read, `r`, also by the reader that holds it; a log and a place in it, `l`; a log to be
-// written again into a buffer, `a`; lists to be written into a buffer, `w`. A buffer is shown whole, whatever the answer.
+// A question is a letter and what it asks about: a log to be read, `r`, also by the reader that holds it; a log and a place in it, `l`; a
+// log to be written again into a buffer, `a`; lists to be written into a buffer, `w`. A buffer is shown whole, whatever the answer.
 mod held;
 mod input;
 mod labelled;

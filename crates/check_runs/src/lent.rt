@@ -1,4 +1,5 @@
-// A delivery step by monitor::deliver_in_place, and a return by monitor::resume_in_place. The state is lent, and then what it has become is read.
+// A delivery step by monitor::deliver_in_place, and a return by monitor::resume_in_place. The state is lent, and then what it has become is
+// read.
 ghost use mathlib.Core.Path.{_≡_};
 ghost use Rattle.delivery.specs.Promise.{Delivering};
 ghost use Rattle.resume.specs.Return.{returned};

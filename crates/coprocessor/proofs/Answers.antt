@@ -20,7 +20,8 @@ use Rattle.coprocessor.specs.declared.transfer.Transfer.{Transfer}
 use Rattle.coprocessor.specs.declared.transfer.Transfer.the-variants.{One, Two, None}
 use Rattle.coprocessor.specs.declared.transfer.Finished.{Finished}
 use Rattle.coprocessor.specs.Answer.{transferNumber}
-use Rattle.coprocessor.specs.Finish.{countedOf, isTransfer, transferNumbers, readOne, wroteOne, readTwo, wroteTwo, one, two, refusing, byTransfer, finished}
+use Rattle.coprocessor.specs.Finish.{countedOf, isTransfer, transferNumbers, readOne, wroteOne, readTwo, wroteTwo, one, two, refusing}
+use Rattle.coprocessor.specs.Finish.{byTransfer, finished}
 use Rattle.coprocessor.specs.Promise.{TransferPromise}
 
 -- ---- the ways through the tests
@@ -74,22 +75,26 @@ number-decided s r first second =
     (by-kind s (countedOf (s .status) r) first second)
 
 -- what the calls promise of the answer and the state, by their equation alone
-pub promised : (s : Guest) (r : Record) (first second : ℕ) {f : Finished} → f ≡ finished s r first second → TransferPromise s r first second f
+pub promised : (s : Guest) (r : Record) (first second : ℕ) {f : Finished} → f ≡ finished s r first second
+    → TransferPromise s r first second f
 promised s r first second e =
     record { result = e; number = ap numberIn e ∙ number-decided s r first second; mask = refl; count = refl }
 
 -- A REFUSAL gives back the very state
-refused-kind : (s : Guest) (t : Transfer) (first second : ℕ) → (numberIn (byTransfer s t first second) ≡ 0 → ⊥) → byTransfer s t first second .state ≡ s
+refused-kind : (s : Guest) (t : Transfer) (first second : ℕ) → (numberIn (byTransfer s t first second) ≡ 0 → ⊥)
+    → byTransfer s t first second .state ≡ s
 refused-kind s (One r) first second n = absurd (n (one-taken s r first))
 refused-kind s (Two r) first second n = absurd (n (two-taken s r first second))
 refused-kind s None first second n = refl
 
-pub refused-untouched : (s : Guest) (r : Record) (first second : ℕ) → (numberIn (finished s r first second) ≡ 0 → ⊥) → finished s r first second .state ≡ s
+pub refused-untouched : (s : Guest) (r : Record) (first second : ℕ) → (numberIn (finished s r first second) ≡ 0 → ⊥)
+    → finished s r first second .state ≡ s
 unfolding finished
 refused-untouched s r first second =
     answer-is (λ (f : Finished). (numberIn f ≡ 0 → ⊥) → f .state ≡ s)
     (needs (had r) (refusing NoEdition s) ∷ needs (sound (s .marks) (s .status)) (refusing UnsoundStatus s) ∷ [])
-    (byTransfer s (countedOf (s .status) r) first second) (λ n. refl, (λ n. refl, tt)) (refused-kind s (countedOf (s .status) r) first second)
+    (byTransfer s (countedOf (s .status) r) first second) (λ n. refl, (λ n. refl, tt))
+    (refused-kind s (countedOf (s .status) r) first second)
 
 -- finishing a coprocessor read or write answers 0, 5, 9 or 18
 pub number-listed : (s : Guest) (r : Record) → T (among (0 ∷ 5 ∷ 9 ∷ 18 ∷ []) (decide (transferNumbers s r) 0))
@@ -97,7 +102,8 @@ number-listed s r =
     answer-is (λ n. T (among (0 ∷ 5 ∷ 9 ∷ 18 ∷ []) n)) (transferNumbers s r) 0 (tt, (tt, (tt, tt))) tt
 
 -- EACH REFUSAL EXACTLY: a number comes exactly when its test is the first that fails, and 0 exactly when none fails
-pub decided : (s : Guest) (r : Record) (first second k : ℕ) → (numberIn (finished s r first second) ≡ k) ↔ FirstFails k (transferNumbers s r)
+pub decided : (s : Guest) (r : Record) (first second k : ℕ)
+    → (numberIn (finished s r first second) ≡ k) ↔ FirstFails k (transferNumbers s r)
 decided s r first second k = (
   λ e. decided-exactly (transferNumbers s r) tt k .0 (sym (number-decided s r first second) ∙ e),
   λ f. number-decided s r first second ∙ decided-exactly (transferNumbers s r) tt k .1 f,

@@ -40,9 +40,20 @@ pub one-steps : (s : Guest) (r : Mcr) (value : ℕ) → Past s (one s r value .s
 unfolding one stepped
 one-steps s r value = go (r .direction)
   where
-    go : (b : Bool) → Past s (cond b (readOne s r value) (wroteOne s r) .state) (r .il) (cond b (statusAfter (s .status) (r .rt) value) (s .status))
-    go true = record { pc = refl; status = refl; kept = record { saved = refl; faults = refl; sctlr = refl; vbar = refl; ttbcr = refl; marks = refl } }
-    go false = record { pc = refl; status = refl; kept = record { saved = refl; faults = refl; sctlr = refl; vbar = refl; ttbcr = refl; marks = refl } }
+    go : (b : Bool) → Past s (cond b (readOne s r value) (wroteOne s r) .state) (r .il)
+        (cond b (statusAfter (s .status) (r .rt) value) (s .status))
+    go true = record {
+      pc = refl;
+      status = refl;
+      kept = record
+          { saved = refl; faults = refl; sctlr = refl; vbar = refl; ttbcr = refl; marks = refl };
+    }
+    go false = record {
+      pc = refl;
+      status = refl;
+      kept = record
+          { saved = refl; faults = refl; sctlr = refl; vbar = refl; ttbcr = refl; marks = refl };
+    }
 
 -- two registers: PC moves on and IT advances
 pub two-steps : (s : Guest) (r : Mcrr) (first second : ℕ) → Stepped s (two s r first second .state) (r .il)
@@ -75,7 +86,8 @@ sound-one s r value =
     go true = sound-status (s .status) value (s .marks) (r .rt)
     go false = refl
 
-pub sound-two : (s : Guest) (r : Mcrr) (first second : ℕ) → sound (s .marks) (two s r first second .state .status) ≡ sound (s .marks) (s .status)
+pub sound-two : (s : Guest) (r : Mcrr) (first second : ℕ)
+    → sound (s .marks) (two s r first second .state .status) ≡ sound (s .marks) (s .status)
 sound-two s r first second =
     ap (sound (s .marks)) (two-steps s r first second .status) ∙ sound-advanced (s .marks) (s .status)
 

@@ -1,4 +1,5 @@
--- A trapped coprocessor read or write goes on by one call, and never by both: where its condition fails it is stepped over, and else it is finished.
+-- A trapped coprocessor read or write goes on by one call, and never by both: where its condition fails it is stepped over, and else it is
+-- finished.
 use mathlib.Core.Path.{_≡_, refl, sym, ap, _∙_}
 use mathlib.Core.Bool.{Bool, true, false, not, cond, _||_, true≢false}
 use mathlib.Core.List.{List, [], _∷_}
@@ -23,7 +24,8 @@ other-class : (classes : List ℕ) → T (all (λ n. not (among (0x01 ∷ 0x13 �
     → among (0x01 ∷ 0x13 ∷ []) n ≡ false
 other-class classes t n e = not-true (among (0x01 ∷ 0x13 ∷ []) n) (among-all classes (λ k. not (among (0x01 ∷ 0x13 ∷ []) k)) t n e)
 
-by-pass : (t : Transfer) {c : Bool} → c ≡ false → isTransfer t ≡ true → (p : Bool) → (c || false || not p) ≡ not (isTransfer (cond p t None))
+by-pass : (t : Transfer) {c : Bool} → c ≡ false → isTransfer t ≡ true → (p : Bool)
+    → (c || false || not p) ≡ not (isTransfer (cond p t None))
 by-pass t c e true = ap (λ (b : Bool). b || false || false) c ∙ sym (ap not e)
 by-pass t c e false = ap (λ (b : Bool). b || false || true) c
 
@@ -32,10 +34,12 @@ goes-on w (Record.Plain x) h e = absurd (true≢false (sym e))
 goes-on w (Record.Wfx x) h e = absurd (true≢false (sym e))
 goes-on w (Record.Mcr x) h e =
     let found = had-some (Record.Mcr x) h in
-    by-pass (transferOf (Record.Mcr x)) (other-class mcrClasses tt (x .class) (has-own Origin.AArch32 (found .0) (Record.Mcr x) (found .2))) e (passes w (Record.Mcr x))
+    by-pass (transferOf (Record.Mcr x)) (other-class mcrClasses tt (x .class)
+    (has-own Origin.AArch32 (found .0) (Record.Mcr x) (found .2))) e (passes w (Record.Mcr x))
 goes-on w (Record.Mcrr x) h e =
     let found = had-some (Record.Mcrr x) h in
-    by-pass (transferOf (Record.Mcrr x)) (other-class mcrrClasses tt (x .class) (has-own Origin.AArch32 (found .0) (Record.Mcrr x) (found .2))) e (passes w (Record.Mcrr x))
+    by-pass (transferOf (Record.Mcrr x)) (other-class mcrrClasses tt (x .class)
+    (has-own Origin.AArch32 (found .0) (Record.Mcrr x) (found .2))) e (passes w (Record.Mcrr x))
 goes-on w (Record.Ldc x) h e = absurd (true≢false (sym e))
 goes-on w (Record.Simd x) h e = absurd (true≢false (sym e))
 goes-on w (Record.Call x) h e = absurd (true≢false (sym e))

@@ -1,6 +1,7 @@
--- A coprocessor read or write that is finished: MCR, MRC and VMRS of one register, MCRR and MRRC of two. A read puts the value into Rt, or the two into Rt and
--- Rt2, and a write hands out what they hold; then the state steps past the instruction. Rt and Rt2 are the state's own numbers. Where the instruction
--- names register 15 they are 31, which holds nothing: a read of one register then goes to the flags, and every other form is UNPREDICTABLE.
+-- A coprocessor read or write that is finished: MCR, MRC and VMRS of one register, MCRR and MRRC of two. A read puts the value into Rt, or
+-- the two into Rt and Rt2, and a write hands out what they hold; then the state steps past the instruction. Rt and Rt2 are the state's own
+-- numbers. Where the instruction names register 15 they are 31, which holds nothing: a read of one register then goes to the flags, and
+-- every other form is UNPREDICTABLE.
 use Prim.Native.Nat.{ℕ}
 use mathlib.Core.Bool.{Bool, true, false, cond}
 use mathlib.Core.List.{List, [], _∷_}

@@ -1,4 +1,5 @@
--- A read to the flags (the manual's MRC with Rt 15, APSR_nzcv). A record has the AArch64 view of a register number, and of 15 that is 31 (001, ISS).
+-- A read to the flags (the manual's MRC with Rt 15, APSR_nzcv). A record has the AArch64 view of a register number, and of 15 that is 31
+-- (001, ISS).
 use Prim.Native.Nat.{ℕ, _+_}
 use mathlib.Core.Bool.{cond}
 use lib.Dec.{eqb}

@@ -21,7 +21,8 @@ use Rattle.delivery.specs.Deliver.{deliveryNumbers, masksOf, guestDelive
 use Rattle.delivery.specs.Promise.{Delivering}
 
 -- the tests come to a number
-both : (s : Guest) {a b : Bool} → sound (s .marks) (s .status) ≡ a → aligned (s .vbar) ≡ b → decide (deliveryNumbers s) 0 ≡ cond a (cond b 0 10) 9
+both : (s : Guest) {a b : Bool} → sound (s .marks) (s .status) ≡ a → aligned (s .vbar) ≡ b
+    → decide (deliveryNumbers s) 0 ≡ cond a (cond b 0 10) 9
 both s {a} {b} e f =
     ap (λ (x : Bool). cond x (cond (aligned (s .vbar)) 0 10) 9) e ∙ ap (λ (x : Bool). cond a (cond x 0 10) 9) f
 
@@ -32,7 +33,8 @@ refused-with q s n e z =
     ap (λ (m : ℕ). stepTo (refused m) (listOf q) s) (sym e)
     ∙ sym (step-refused guestDelivery (listOf q) s (ap (λ (m : ℕ). eqb m 0) e ∙ z))
 
-pub unsound : (q : Queue) (s : Guest) → sound (s .marks) (s .status) ≡ false → stepTo (refused 9) (listOf q) s ≡ stepOf guestDelivery (listOf q) s
+pub unsound : (q : Queue) (s : Guest) → sound (s .marks) (s .status) ≡ false
+    → stepTo (refused 9) (listOf q) s ≡ stepOf guestDelivery (listOf q) s
 unsound q s e = refused-with q s 9 (both s e refl) refl
 
 pub unaligned : (q : Queue) (s : Guest) → sound (s .marks) (s .status) ≡ true → aligned (s .vbar) ≡ false
@@ -53,7 +55,8 @@ same-number UnalignedVbar = refl
 
 -- what the calls promise, by their equation alone
 pub promised : (q : Queue) (s : Guest) (r : struct.Delivered)
-    → stepTo (plainAnswer (r .outcome .answer)) (listOf (r .outcome .queue)) (r .state) ≡ stepOf guestDelivery (listOf q) s → Delivering q s r
+    → stepTo (plainAnswer (r .outcome .answer)) (listOf (r .outcome .queue)) (r .state) ≡ stepOf guestDelivery (listOf q) s
+    → Delivering q s r
 unfolding guestDelivery
 promised q s r e =
     record {

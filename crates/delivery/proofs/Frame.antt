@@ -38,14 +38,16 @@ unfolding dfsrOf statusOf
 asynchronous-words domain ttbcr = go (bitOf ttbcr 31)
   where
     go : (b : Bool)
-        → codeIn (onCode (λ w. writeBit false + (domainIn asynchronous b domain + w)) (onCode (λ c. statusWord c b) (column asynchronous b)))
+        → codeIn (onCode (λ w. writeBit false + (domainIn asynchronous b domain + w))
+        (onCode (λ c. statusWord c b) (column asynchronous b)))
         ≡ cond b 0x211 0x406
     go true = refl
     go false = refl
 
 -- DFAR, IFSR and IFAR stay, whatever is delivered, and an FIQ or IRQ leaves DFSR too
 pub others-stay : (k : Kind) (old : FaultRegisters) (ttbcr : ℕ)
-    → (faultsAfter k old ttbcr .dfar ≡ old .dfar) × (faultsAfter k old ttbcr .ifsr ≡ old .ifsr) × (faultsAfter k old ttbcr .ifar ≡ old .ifar)
+    → (faultsAfter k old ttbcr .dfar ≡ old .dfar) × (faultsAfter k old ttbcr .ifsr ≡ old .ifsr)
+    × (faultsAfter k old ttbcr .ifar ≡ old .ifar)
 others-stay Kind.Abort old ttbcr = (refl, refl, refl)
 others-stay Kind.Fiq old ttbcr = (refl, refl, refl)
 others-stay Kind.Irq old ttbcr = (refl, refl, refl)

@@ -30,18 +30,20 @@ madeStep s r = delivering s (plainAnswer (r .outcome .answer)) (r .state)
 pub step-promised : (q : Queue) (s : Guest) (r : Delivered) → Delivering q s r → Promised guestDelivery q (madeStep s r) (r .outcome .queue)
 step-promised q s r p = p .result
 
--- OVER RUNS: any list of raises and steps, each given the queue that the last one left, with nothing waiting at the start: what came back is what the plain
--- queue answers, the state after each step included, and so is the last queue
+-- OVER RUNS: any list of raises and steps, each given the queue that the last one left, with nothing waiting at the start: what came back
+-- is what the plain queue answers, the state after each step included, and so is the last queue
 pub guest-runs : (q last : Queue) (made : List (Made Guest)) → listOf q ≡ [] → Run guestDelivery q made last
     → (made ≡ runFrom guestDelivery [] (callsOf made)) × (listOf last ≡ lastFrom guestDelivery [] (callsOf made))
 guest-runs = runs guestDelivery
 
 -- THE BOUND OF THREE, on guest states
-pub guest-bound : (k : Kind) (q last : Queue) (made : List (Made Guest)) → Run guestDelivery q (raising k ∷ made) last → 3 ≤ counted guestDelivery k made
+pub guest-bound : (k : Kind) (q last : Queue) (made : List (Made Guest)) → Run guestDelivery q (raising k ∷ made) last
+    → 3 ≤ counted guestDelivery k made
     → DeliveredBy guestDelivery 3 k made
 guest-bound = bound guestDelivery
 
--- AND THREE IS REACHED: in User mode with nothing masked, there is a run in which k comes in the third step that finds its mask bit 0, and not before
+-- AND THREE IS REACHED: in User mode with nothing masked, there is a run in which k comes in the third step that finds its mask bit 0, and
+-- not before
 abbrev pub unmaskedUser : Guest
 unmaskedUser =
     record {
@@ -67,7 +69,8 @@ is-unmasked Fiq = refl
 is-unmasked Irq = refl
 
 pub guest-three : (k : Kind)
-    → Run guestDelivery Empty (raising (neighbour k true) ∷ raising (neighbour k false) ∷ raising k ∷ threeSteps guestDelivery unmaskedUser is-taken is-unmasked k) Empty
+    → Run guestDelivery Empty (raising (neighbour k true) ∷ raising (neighbour k false) ∷ raising k
+    ∷ threeSteps guestDelivery unmaskedUser is-taken is-unmasked k) Empty
 guest-three = three-reached guestDelivery unmaskedUser is-taken is-unmasked
 
 pub guest-not-by-two : (k : Kind) → DeliveredBy guestDelivery 2 k (threeSteps guestDelivery unmaskedUser is-taken is-unmasked k) → ⊥

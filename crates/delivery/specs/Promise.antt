@@ -1,4 +1,5 @@
--- What the calls that deliver promise: the answer, what waits after it and the whole state are the plain queue's, and the answer's number, mask and count.
+-- What the calls that deliver promise: the answer, what waits after it and the whole state are the plain queue's, and the answer's number,
+-- mask and count.
 use mathlib.Core.Path.{_≡_}
 use Rattle.bits.specs.Decide.{decide}
 use Rattle.exception.specs.declared.state.Guest.{Guest}

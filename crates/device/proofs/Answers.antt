@@ -41,7 +41,8 @@ module _ (s : Guest) (r : Record) (value : ℕ) where
   unfolding finished
   unsound e d = rw (e, d)
 
-  pub settled : had r ≡ true → sound (s .marks) (s .status) ≡ true → {d : Described} → describedOf r ≡ d → byDescription s d value ≡ finished s r value
+  pub settled : had r ≡ true → sound (s .marks) (s .status) ≡ true → {d : Described} → describedOf r ≡ d
+      → byDescription s d value ≡ finished s r value
   unfolding finished
   settled e d q = rw (e, d) (told (λ (x : Described). byDescription s x value) q)
 
@@ -80,7 +81,8 @@ promised s r value e =
     record { result = e; number = ap numberIn e ∙ number-decided s r value; mask = refl; count = refl }
 
 -- A REFUSAL gives back the very state
-refused-description : (s : Guest) (d : Described) (value : ℕ) → (numberIn (byDescription s d value) ≡ 0 → ⊥) → byDescription s d value .state ≡ s
+refused-description : (s : Guest) (d : Described) (value : ℕ) → (numberIn (byDescription s d value) ≡ 0 → ⊥)
+    → byDescription s d value .state ≡ s
 refused-description s (Access r) value n = absurd (n (finished-access s r value))
 refused-description s Nothing value n = refl
 

@@ -57,12 +57,14 @@ load-register s r value e h =
     ap (λ (b : Bool). getD (cond b (stored s r) (loaded s r value) .state .regs) (r .srt) 0) e
     ∙ getD-set-same (s .regs) (r .srt) (extended (r .sas) (r .sse) (transferred (r .sas) (bigEndian (s .status)) value)) 0 h
 
-pub load-others : (s : Guest) (r : DataAbort) (value k : ℕ) → r .wnr ≡ false → (k ≡ r .srt → ⊥) → getD (accessed s r value .state .regs) k 0 ≡ getD (s .regs) k 0
+pub load-others : (s : Guest) (r : DataAbort) (value k : ℕ) → r .wnr ≡ false → (k ≡ r .srt → ⊥)
+    → getD (accessed s r value .state .regs) k 0 ≡ getD (s .regs) k 0
 unfolding accessed stepped
 load-others s r value k e n =
     ap (λ (b : Bool). getD (cond b (stored s r) (loaded s r value) .state .regs) k 0) e
     ∙ getD-set-other (s .regs) (r .srt) k (extended (r .sas) (r .sse) (transferred (r .sas) (bigEndian (s .status)) value)) 0 n
 
 -- the state after a finished access is sound where the old one was
-pub sound-after : (s : Guest) (r : DataAbort) (value : ℕ) → sound (s .marks) (accessed s r value .state .status) ≡ sound (s .marks) (s .status)
+pub sound-after : (s : Guest) (r : DataAbort) (value : ℕ)
+    → sound (s .marks) (accessed s r value .state .status) ≡ sound (s .marks) (s .status)
 sound-after s r value = ap (sound (s .marks)) (access-steps s r value .status) ∙ sound-advanced (s .marks) (s .status)

@@ -34,7 +34,8 @@ pub joined : (sas v : ℕ) → bitOr (onesAbove sas) (cutTo sas v) ≡ onesAbove
 unfolding cutTo
 joined sas v = go (eqb sas 0) (eqb sas 1)
   where
-    go : (b h : Bool) → bitOr (cond b 0xFFFF_FF00 (cond h 0xFFFF_0000 0)) (cond b (fieldOf v 7 0) (cond h (fieldOf v 15 0) (fieldOf v 31 0)))
+    go : (b h : Bool) → bitOr (cond b 0xFFFF_FF00 (cond h 0xFFFF_0000 0))
+        (cond b (fieldOf v 7 0) (cond h (fieldOf v 15 0) (fieldOf v 31 0)))
         ≡ cond b 0xFFFF_FF00 (cond h 0xFFFF_0000 0) + cond b (fieldOf v 7 0) (cond h (fieldOf v 15 0) (fieldOf v 31 0))
     go true h = above-byte (fieldOf v 7 0) (omega arith)
     go false true = above-half (fieldOf v 15 0) (omega arith)

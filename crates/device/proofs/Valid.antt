@@ -1,4 +1,5 @@
--- A record that some edition has and that describes its access names a register below 31 and a size below 3, so that the call needs nothing of its caller.
+-- A record that some edition has and that describes its access names a register below 31 and a size below 3, so that the call needs nothing
+-- of its caller.
 use mathlib.Core.Path.{_≡_, refl, sym, ap, _∙_}
 use mathlib.Core.Bool.{Bool, true, false, cond, not, _&&_, _||_, true≢false}
 use Prim.Native.Nat.{ℕ, _^_, _<_}
@@ -67,7 +68,8 @@ module _ (a : DataAbort) (e : ℕ) (h : has Origin.AArch32 e (Record.DataAbort a
       (and-left (n && s && p) q (and-left (n && s && p && q) c (and-left (n && s && p && q && c) w valid)))))
 
   srt-below : a .srt < 31
-  srt-below = let d : eqb (a .srt) 31 ≡ false = flip (eqb (a .srt) 31) not-31 in let k = eqb-false (a .srt) 31 d in let f = srt-fits in omega arith
+  srt-below = let d : eqb (a .srt) 31 ≡ false = flip (eqb (a .srt) 31) not-31 in let k = eqb-false (a .srt) 31 d in let f = srt-fits
+      in omega arith
     where
       flip : (b : Bool) → not b ≡ true → b ≡ false
       flip true e = absurd (true≢false (sym e))

@@ -20,7 +20,8 @@ module _ (a b c d : ℕ) (ha : a < 256) (hb : b < 256) (hc : c < 256) (hd : d < 
   abbrev whole-word : ℕ
   whole-word = a * 2 ^ 24 + b * 2 ^ 16 + c * 2 ^ 8 + d
 
-  word-digits : (fieldOf whole-word 7 0 ≡ d) × (fieldOf whole-word 15 8 ≡ c) × (fieldOf whole-word 23 16 ≡ b) × (fieldOf whole-word 31 24 ≡ a)
+  word-digits : (fieldOf whole-word 7 0 ≡ d) × (fieldOf whole-word 15 8 ≡ c) × (fieldOf whole-word 23 16 ≡ b)
+      × (fieldOf whole-word 31 24 ≡ a)
   word-digits = (omega arith, omega arith, omega arith, omega arith)
 
 -- a number's low 16 and 32 bits are their bytes
@@ -50,15 +51,18 @@ back-half v =
 back-word : (v : ℕ) → let x = fieldOf v 7 0 * 2 ^ 24 + fieldOf v 15 8 * 2 ^ 16 + fieldOf v 23 16 * 2 ^ 8 + fieldOf v 31 24 in
     fieldOf x 7 0 * 2 ^ 24 + fieldOf x 15 8 * 2 ^ 16 + fieldOf x 23 16 * 2 ^ 8 + fieldOf x 31 24 ≡ fieldOf v 31 0
 back-word v =
-    let d = word-digits (fieldOf v 7 0) (fieldOf v 15 8) (fieldOf v 23 16) (fieldOf v 31 24) (omega arith) (omega arith) (omega arith) (omega arith) in
+    let d = word-digits (fieldOf v 7 0) (fieldOf v 15 8) (fieldOf v 23 16) (fieldOf v 31 24) (omega arith) (omega arith) (omega arith)
+    (omega arith) in
     join (d .0) (d .1) (d .2) (d .3) ∙ word-bytes v
   where
-    join : {p q r s p′ q′ r′ s′ : ℕ} → p ≡ p′ → q ≡ q′ → r ≡ r′ → s ≡ s′ → p * 2 ^ 24 + q * 2 ^ 16 + r * 2 ^ 8 + s ≡ p′ * 2 ^ 24 + q′ * 2 ^ 16 + r′ * 2 ^ 8 + s′
+    join : {p q r s p′ q′ r′ s′ : ℕ} → p ≡ p′ → q ≡ q′ → r ≡ r′ → s ≡ s′
+        → p * 2 ^ 24 + q * 2 ^ 16 + r * 2 ^ 8 + s ≡ p′ * 2 ^ 24 + q′ * 2 ^ 16 + r′ * 2 ^ 8 + s′
     join e f g h = omega arith
 
 -- the bytes in reverse, and the low bits, by the two tests of SAS
 abbrev by : Bool → Bool → ℕ → ℕ
-by b h x = cond b (fieldOf x 7 0) (cond h (fieldOf x 7 0 * 2 ^ 8 + fieldOf x 15 8) (fieldOf x 7 0 * 2 ^ 24 + fieldOf x 15 8 * 2 ^ 16 + fieldOf x 23 16 * 2 ^ 8 + fieldOf x 31 24))
+by b h x = cond b (fieldOf x 7 0) (cond h (fieldOf x 7 0 * 2 ^ 8 + fieldOf x 15 8)
+    (fieldOf x 7 0 * 2 ^ 24 + fieldOf x 15 8 * 2 ^ 16 + fieldOf x 23 16 * 2 ^ 8 + fieldOf x 31 24))
 
 abbrev low : Bool → Bool → ℕ → ℕ
 low b h x = cond b (fieldOf x 7 0) (cond h (fieldOf x 15 0) (fieldOf x 31 0))

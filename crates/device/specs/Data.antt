@@ -1,5 +1,5 @@
--- What passes between a register and the device (02, C-17: "take the low 8, 16 or 32 bits, reverse the bytes if the status word's E bit is set, extend by
--- sign or zero as SSE says").
+-- What passes between a register and the device (02, C-17: "take the low 8, 16 or 32 bits, reverse the bytes if the status word's E bit is
+-- set, extend by sign or zero as SSE says").
 use Prim.Native.Nat.{ℕ, _+_, _*_, _^_}
 use mathlib.Core.Bool.{Bool, _&&_, cond}
 use lib.Dec.{eqb}

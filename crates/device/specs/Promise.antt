@@ -1,4 +1,5 @@
--- What the two calls that finish an access promise (02, C-17): the answer and the whole state after it, and the answer's number, mask and count.
+-- What the two calls that finish an access promise (02, C-17): the answer and the whole state after it, and the answer's number, mask and
+-- count.
 use mathlib.Core.Path.{_≡_}
 use Prim.Native.Nat.{ℕ}
 use Rattle.bits.specs.Decide.{decide}

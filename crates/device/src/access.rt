@@ -68,7 +68,8 @@ fn accessed(state: Guest, abort: DataAbort, value: u32) -> Finished
     }
 }
 
-// The answer, with the state after it: a refusal's is the state that came. A store doesn't look at the value. The guest's state is AArch32's, and so is the record.
+// The answer, with the state after it: a refusal's is the state that came. A store doesn't look at the value. The guest's state is
+// AArch32's, and so is the record.
 pub fn finish(state: Guest, what: Record, value: u32) -> Finished
     ensures { λ r. ⌜ FinishPromise state what value r ⌝ }
 {

@@ -25,6 +25,7 @@ module _ {R : Type 0} (n : ℕ) (has : ℕ → R → Bool) where
   all-have [] t = tt
   all-have (r ∷ rs) t = (
     mask-everywhere n (λ e. has e r)
-        (eqb→eq (maskBelow n (λ e. has e r)) (maskBelow n (λ e. true)) (both-left (eqb (maskBelow n (λ e. has e r)) (maskBelow n (λ e. true))) (allMasks rs) t)),
+        (eqb→eq (maskBelow n (λ e. has e r)) (maskBelow n (λ e. true))
+        (both-left (eqb (maskBelow n (λ e. has e r)) (maskBelow n (λ e. true))) (allMasks rs) t)),
     all-have rs (both-right (eqb (maskBelow n (λ e. has e r)) (maskBelow n (λ e. true))) (allMasks rs) t),
   )

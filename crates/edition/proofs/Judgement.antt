@@ -30,7 +30,8 @@ pub judge-taken : (n : ℕ) (test : ℕ → Bool) (e : ℕ) → e < n → judgeO
 judge-taken n test e is t = by (not (eqb (maskBelow n test) 0)) (test e) (sym (judge-test n test e is) ∙ t)
   where
     by : (some has : Bool)
-        → cond some (cond has Taken (Refused (OtherEditions (maskBelow n test) (ones (maskBelow n test))))) (Refused NoEdition) ≡ Taken → has ≡ true
+        → cond some (cond has Taken (Refused (OtherEditions (maskBelow n test) (ones (maskBelow n test))))) (Refused NoEdition) ≡ Taken
+        → has ≡ true
     by true true q = refl
     by true false q = absurd-answer (cc q)
     by false has q = absurd-answer (cc q)

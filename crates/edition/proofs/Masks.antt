@@ -4,7 +4,8 @@ use mathlib.Core.Path.{_≡_, refl, _∙_, sym, ap, ap₂, subst}
 use mathlib.Core.Bool.{Bool, true, false, cond, _&&_, _||_, and-true, and-false}
 use mathlib.Core.Logic.{_⊎_, inl, inr, ⊎-elim}
 use Prim.Native.Nat.{ℕ, zero, suc, _+_, _-_, _*_, _/_, _%_, _^_, _≤_, _<_}
-use native.Mathlib.Nat.{zero-mul, eq-or-lt-of-le, le-of-suc-le-suc, le-refl, lt-of-lt-of-le, mul-add-mod-self-right, mod-eq-of-lt, div-eq-of-lt, zero-mod, not-suc-le-zero}
+use native.Mathlib.Nat.{zero-mul, eq-or-lt-of-le, le-of-suc-le-suc, le-refl, lt-of-lt-of-le, mul-add-mod-self-right, mod-eq-of-lt}
+use native.Mathlib.Nat.{div-eq-of-lt, zero-mod, not-suc-le-zero}
 use native.Mathlib.Numerals.{one-add}
 use native.Mathlib.Omega.{arith}
 use borrow.Author.Tests.{lt-ltb}
@@ -66,7 +67,8 @@ lower-bit : (d n rest e : ℕ) → e < n → (d * 2 ^ n + rest) / 2 ^ e % 2 ^ 1 
 lower-bit d n rest e h =
     sym (field (d * 2 ^ n + rest) 1 e)
     ∙ ap (λ (x : ℕ). x / 2 ^ e)
-    (ap (λ (x : ℕ). (x + rest) % 2 ^ (1 + e)) (shift-by-way d (omega arith)) ∙ mul-add-mod-self-right (d * 2 ^ (n - (1 + e))) (2 ^ (1 + e)) rest)
+    (ap (λ (x : ℕ). (x + rest) % 2 ^ (1 + e)) (shift-by-way d (omega arith))
+    ∙ mul-add-mod-self-right (d * 2 ^ (n - (1 + e))) (2 ^ (1 + e)) rest)
     ∙ field rest 1 e
 
 digit-at : (n : ℕ) (test : ℕ → Bool) (e : ℕ) → e < n → maskBelow n test / 2 ^ e % 2 ^ 1 ≡ digit (test e)
@@ -131,7 +133,8 @@ mask-either n false false p = mask-same n (λ e. p e && false) (λ e. false) (λ
 -- a rule of the edition, kept where a test holds, of the n editions alone
 pub mask-known : (n : ℕ) (b : Bool) (rule : ℕ → Bool) → cond b (maskBelow n rule) 0 ≡ maskBelow n (λ e. ltb e n && b && rule e)
 mask-known n b rule =
-    mask-when n b rule ∙ mask-same n (λ e. b && rule e) (λ e. ltb e n && b && rule e) (λ e h. ap (λ (t : Bool). t && b && rule e) (sym (lt-ltb e n h)))
+    mask-when n b rule ∙ mask-same n (λ e. b && rule e) (λ e. ltb e n && b && rule e)
+    (λ e h. ap (λ (t : Bool). t && b && rule e) (sym (lt-ltb e n h)))
 
 -- the same laws for the masks of the long form's editions
 pub both-masks : (p q : ℕ → Bool) → bitAnd (maskOf p) (maskOf q) ≡ maskOf (λ e. p e && q e)

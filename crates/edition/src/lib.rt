@@ -8,7 +8,8 @@ ghost use Rattle.edition.specs.Judge.{refusalNumber, refusalMask, refusa
 // How many editions there are. A mask of editions is a u32, which has room for more.
 pub const EDITIONS: u32 = 16;
 
-// All editions, and those that have each feature that a constant table goes by. A function below says which editions each of the first two are.
+// All editions, and those that have each feature that a constant table goes by. A function below says which editions each of the first two
+// are.
 pub const ALL: u32 = 0xFFFF;
 
 pub const RAS: u32 = 0xAAAA;

@@ -12,7 +12,8 @@ use Rattle.exception.specs.declared.entry.Row.{Row}
 use Rattle.exception.specs.Vector.{aligned, vectorBase}
 use Rattle.exception.specs.Entry.{entered}
 
-pub vector-exact : (sctlr vbar v : ℕ) → aligned vbar ≡ true → vbar < 2 ^ 32 → v < 32 → (vectorBase sctlr vbar + v) % 2 ^ 32 ≡ vectorBase sctlr vbar + v
+pub vector-exact : (sctlr vbar v : ℕ) → aligned vbar ≡ true → vbar < 2 ^ 32 → v < 32
+    → (vectorBase sctlr vbar + v) % 2 ^ 32 ≡ vectorBase sctlr vbar + v
 unfolding aligned
 vector-exact sctlr vbar v e h k = go (bitOf sctlr 13)
   where

@@ -29,8 +29,8 @@ savedIn Undefined s w = record { fiq = s .fiq; irq = s .irq; svc = s .svc; abt =
 savedIn Fiq s w = record { fiq = w; irq = s .irq; svc = s .svc; abt = s .abt; und = s .und }
 savedIn Irq s w = record { fiq = s .fiq; irq = w; svc = s .svc; abt = s .abt; und = s .und }
 
--- the new state, given its status word: registers, PC, saved status words and fault registers. PC doesn't wrap where VBAR is aligned (`vector-exact`,
--- proofs/Vectors.antt).
+-- the new state, given its status word: registers, PC, saved status words and fault registers. PC doesn't wrap where VBAR is aligned
+-- (`vector-exact`, proofs/Vectors.antt).
 abbrev pub enteredWith : ℕ → Guest → Row → FaultRegisters → Guest
 enteredWith status s row faults =
     changed s

@@ -14,8 +14,8 @@ use status::entry_status;
 use status::t32;
 use std::num::wrapping_add_u32;
 
-// What an exception does: the mode that it enters, its offset in the vector table, the mode's LR in the AArch64 numbering, whether A and F are set (else
-// kept), and what is added to PC for the link, in either instruction set.
+// What an exception does: the mode that it enters, its offset in the vector table, the mode's LR in the AArch64 numbering, whether A and F
+// are set (else kept), and what is added to PC for the link, in either instruction set.
 pub struct Row {
     pub mode: Mode,
     pub vector: u32,

@@ -72,4 +72,5 @@ module _ (row : Row) (write : Bool) (ttbcr : ℕ) where
   unfolding dfsrOf statusOf
   domain-read domain short h e =
       field-7-4 (row .domain) write (column row false) domain h
-      (ap (λ (long : Bool). onCode (λ s. writeBit write + (domainIn row long domain + s)) (onCode (λ c. statusWord c long) (column row long))) (sym short) ∙ e)
+      (ap (λ (long : Bool). onCode (λ s. writeBit write + (domainIn row long domain + s))
+      (onCode (λ c. statusWord c long) (column row long))) (sym short) ∙ e)

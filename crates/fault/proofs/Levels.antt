@@ -1,4 +1,5 @@
--- Which faults can be written, in plain words: a level of 1 to 3 in the long format and of 1 or 2 in the short, and no alignment fault in a prefetch abort.
+-- Which faults can be written, in plain words: a level of 1 to 3 in the long format and of 1 or 2 in the short, and no alignment fault in a
+-- prefetch abort.
 use mathlib.Core.Path.{_≡_, refl, ap, _∙_}
 use mathlib.Core.Bool.{Bool, true, false, cond, not, _&&_}
 use Prim.Native.Nat.{ℕ, zero, suc, _+_, _≤_, _<_}
@@ -9,7 +10,8 @@ use Rattle.fault.specs.declared.Fault.{Fault}
 use Rattle.fault.specs.declared.Fault.the-variants.{External, Translation, AccessFlag, Permission, Alignment}
 use Rattle.fault.specs.declared.Encoding.{Encoding}
 use Rattle.fault.specs.declared.Encoding.the-variants.{Code, Unwritable}
-use Rattle.fault.specs.Fault.{byLevel, faultRow, isLong, column, statusWord, onCode, statusOf, isAlignment, ifsrWord, writeBit, domainIn, dfsrOf, dfsrWord, isCode}
+use Rattle.fault.specs.Fault.{byLevel, faultRow, isLong, column, statusWord, onCode, statusOf, isAlignment, ifsrWord, writeBit}
+use Rattle.fault.specs.Fault.{domainIn, dfsrOf, dfsrWord, isCode}
 
 -- the level is one that the format has
 abbrev pub hasLevel : Bool → ℕ → Bool
@@ -30,7 +32,14 @@ above : (x y : ℕ) (z : Encoding) (b : Bool) (l : ℕ) → 4 ≤ l → isCode (
 unfolding byLevel
 above x y z b l h =
     let k = top b in
-    rw (ne-eqb l 1 (λ e. omega arith), ne-eqb l 2 (λ e. omega arith), ne-eqb l 3 (λ e. omega arith), le-leb 1 l (omega arith), lt-leb l (cond b 3 2) (omega arith))
+    rw (
+      ne-eqb l 1 (λ e. omega arith),
+      ne-eqb l 2 (λ e. omega arith),
+      ne-eqb l 3 (λ e. omega arith),
+      le-leb 1 l (omega arith),
+      lt-leb l
+          (cond b 3 2) (omega arith),
+    )
 
 -- a row of the table, by whether it has a level 3
 levels : (x y : ℕ) (z : Encoding) (l : ℕ) → isCode (byLevel l x y z) ≡ hasLevel (isCode z) l

@@ -14,8 +14,8 @@ unfoldable pub byLevel : ℕ → ℕ → ℕ → Encoding → Encoding
 byLevel level first second third =
     cond (eqb level 1) (Code first) (cond (eqb level 2) (Code second) (cond (eqb level 3) third Unwritable))
 
--- the row of a fault that has levels: FS of levels 1 and 2 in the short format, which has no level 3, STATUS of levels 1, 2 and 3 in the long, and whether
--- a DFSR of the short format has the domain at level 2
+-- the row of a fault that has levels: FS of levels 1 and 2 in the short format, which has no level 3, STATUS of levels 1, 2 and 3 in the
+-- long, and whether a DFSR of the short format has the domain at level 2
 abbrev pub levelled : ℕ → ℕ → ℕ → ℕ → ℕ → ℕ → Bool → Row
 levelled l s1 s2 l1 l2 l3 domain =
     record { short = byLevel l s1 s2 Unwritable; long = byLevel l l1 l2 (Code l3); domain = domain && eqb l 2 }

@@ -47,7 +47,8 @@ pub record Own (n : ℕ) (test : ℕ → Bool) (own : List (Test Refusal)) : Typ
 
 module _ {A : Type 0} (n : ℕ) (test : ℕ → Bool) (own : List (Test Refusal)) (e : ℕ) (a : A) where
   -- the tests, one part after the other
-  call-known : ltb e n ≡ true → callOf n test own e a ≡ decide (relabel refused own) (decide (relabel refused (judgement n test e)) (given a))
+  call-known : ltb e n ≡ true → callOf n test own e a
+      ≡ decide (relabel refused own) (decide (relabel refused (judgement n test e)) (given a))
   unfolding callOf
   call-known is =
       ap (λ (b : Bool). cond b (decide (relabel refused (own ++ judgement n test e)) (given a)) (refused UnknownEdition)) is
@@ -79,7 +80,8 @@ module _ {A : Type 0} (n : ℕ) (test : ℕ → Bool) (own : List (Test Refusal)
       by (inl z) b same =
           own-test (mask-zero n test z) NoEdition (λ six. absurd (omega (arith, six)))
           (call-judged is pass
-          ∙ ap (λ (b : Bool). cond (not b) (cond (test e) (given a) (refused (others n test))) (refused NoEdition)) (eq-eqb (maskBelow n test) 0 z))
+          ∙ ap (λ (b : Bool). cond (not b) (cond (test e) (given a) (refused (others n test))) (refused NoEdition))
+          (eq-eqb (maskBelow n test) 0 z))
       by (inr found) true same =
           passed (ltb-true e n is) same
           (call-judged is pass
@@ -143,7 +145,8 @@ module _ {A : Type 0} (n : ℕ) (test : ℕ → Bool) (own : List (Test Refusal)
         by (other-editions o q) = q
         by (passed is had q) = absurd (true≢false (sym had ∙ o .1))
 
-    -- REFUSAL 6 EXACTLY: when the edition is one of the n, it doesn't have it and another does; with the mask of those that have it, and their number
+    -- REFUSAL 6 EXACTLY: when the edition is one of the n, it doesn't have it and another does; with the mask of those that have it, and
+    -- their number
     pub six-exactly : (mask count : ℕ)
         → (callOf n test own e a ≡ refused (OtherEditions mask count))
         ↔ (OthersHave n test e × (mask ≡ maskBelow n test) × (count ≡ countBelow n test))

@@ -1,5 +1,5 @@
--- Demand 2 for words, in every form: in each edition a word is taken exactly when some record that the edition has writes to it, and writing that record
--- gives the same word.
+-- Demand 2 for words, in every form: in each edition a word is taken exactly when some record that the edition has writes to it, and
+-- writing that record gives the same word.
 -- Assumes nothing.
 use mathlib.Core.Path.{_≡_, _∙_, sym, ap}
 use mathlib.Core.Bool.{true}
@@ -22,7 +22,8 @@ module _ {R : Type 0} (f : Form R) (s : Sound f) where
   -- what the edition has is taken at the word that it makes
   pub had-taken : (e w : ℕ) (r : R) → f .has e r ≡ true → f .word r ≡ w → readAs f e w ≡ given r
   had-taken e w r h same =
-      had-given (f .editions) (λ x. hasWord f x w) (f .reading w) e (f .at w) (own-reading f s w) (s .known e r h) (has-word f s e r h w same)
+      had-given (f .editions) (λ x. hasWord f x w) (f .reading w) e (f .at w) (own-reading f s w) (s .known e r h)
+      (has-word f s e r h w same)
       ∙ ap given (at-record f s e r h w same)
 
   -- what is written, the edition has, and the word is the one that it makes
@@ -36,7 +37,8 @@ module _ {R : Type 0} (f : Form R) (s : Sound f) where
       had-given (f .editions) (λ x. f .has x r) (f .writing r) e (f .word r) (own-writing f s r) (s .known e r h) h ∙ ap given same
 
   -- the same in the answers of code
-  module _ {X Y : Type 0} {shown : Answer R → X} {means : X → Answer R} (reads : Shows shown means) {put : Answer ℕ → Y} {told : Y → Answer ℕ} (writes : Shows put told) where
+  module _ {X Y : Type 0} {shown : Answer R → X} {means : X → Answer R} (reads : Shows shown means) {put : Answer ℕ → Y}
+      {told : Y → Answer ℕ} (writes : Shows put told) where
     -- READING: the answer is a record exactly when the edition has it and it makes the word
     pub read-exactly : (e w : ℕ) (r : R) → (shown (readAs f e w) ≡ shown (given r)) ↔ ((f .has e r ≡ true) × (f .word r ≡ w))
     read-exactly e w r = (λ t. taken-had e w r (shown-alike reads _ _ t), λ h. ap shown (had-taken e w r (h .0) (h .1)))

@@ -1,6 +1,6 @@
--- Demand 3 for words and records, in every form: whatever word one edition puts out for a record, reading it in another, or in the same, gives back that
--- very record exactly when the reading edition has it, and otherwise refusal 6 with the editions that have the record, and their number.
--- Assumes nothing.
+-- Demand 3 for words and records, in every form: whatever word one edition puts out for a record, reading it in another, or in the same,
+-- gives back that very record exactly when the reading edition has it, and otherwise refusal 6 with the editions that have the record, and
+-- their number. Assumes nothing.
 use mathlib.Core.Path.{_≡_, refl, _∙_, sym, ap}
 use mathlib.Core.Bool.{Bool, true, false}
 use Prim.Native.Nat.{ℕ}
@@ -50,7 +50,8 @@ module _ {R : Type 0} (f : Form R) (s : Sound f) where
         by false isn't h same = call-unknown (f .editions) (λ x. hasWord f x w) (f .reading w) b (f .at w) isn't ∙ simp isn't
 
   -- the same in the answers of code
-  module _ {X Y : Type 0} {shown : Answer R → X} {means : X → Answer R} (reads : Shows shown means) {put : Answer ℕ → Y} {told : Y → Answer ℕ} (writes : Shows put told) where
+  module _ {X Y : Type 0} {shown : Answer R → X} {means : X → Answer R} (reads : Shows shown means) {put : Answer ℕ → Y}
+      {told : Y → Answer ℕ} (writes : Shows put told) where
     module _ (a b w : ℕ) (r : R) (out : put (writeAs f a r) ≡ put (given w)) where
       written : writeAs f a r ≡ given w
       written = shown-alike writes _ _ out

@@ -1,5 +1,5 @@
--- What is asked of a form, once for each form, and what follows of its words: an edition has a word exactly where it has a record that makes the word.
--- Assumes nothing.
+-- What is asked of a form, once for each form, and what follows of its words: an edition has a word exactly where it has a record that
+-- makes the word. Assumes nothing.
 use mathlib.Core.Path.{_≡_, refl, _∙_, sym, ap, subst}
 use mathlib.Core.Bool.{Bool, true, _&&_}
 use mathlib.Core.Logic.{_↔_}
@@ -14,8 +14,8 @@ use Rattle.edition.proofs.Masks.{mask-same}
 use Rattle.form.specs.Form.{Form, hasWord}
 use Rattle.form.proofs.Calls.{NotSix, Own}
 
--- a record that some edition has: its edition is one of the form's, it stands at the bits of its own word, and it and its word pass the tests before 5; and
--- no such test answers 6
+-- a record that some edition has: its edition is one of the form's, it stands at the bits of its own word, and it and its word pass the
+-- tests before 5; and no such test answers 6
 pub record Sound {R : Type 0} (f : Form R) : Type 0 where
   pub known : (e : ℕ) (r : R) → f .has e r ≡ true → e < f .editions
   pub back : (e : ℕ) (r : R) → f .has e r ≡ true → f .at (f .word r) ≡ r

@@ -72,7 +72,8 @@ module _ {R : Type 0} (f : Form R) (reader : ℕ) (r : R) where
   back-number = by (ltb reader (f .editions)) (f .has reader r)
     where
       by : (k h : Bool)
-          → numberIn (cond k (cond h (given r) (refused (others (f .editions) (λ x. f .has x r)))) (refused UnknownEdition)) ≡ cond k (cond h 0 6) 1
+          → numberIn (cond k (cond h (given r) (refused (others (f .editions) (λ x. f .has x r)))) (refused UnknownEdition))
+          ≡ cond k (cond h 0 6) 1
       by true true = refl
       by true false = refl
       by false h = refl

@@ -1,5 +1,5 @@
--- The promises of reading, writing, rewriting and carrying, in every form and in any answers of code; and what a promise says of each number.
--- Assumes nothing.
+-- The promises of reading, writing, rewriting and carrying, in every form and in any answers of code; and what a promise says of each
+-- number. Assumes nothing.
 use mathlib.Core.Path.{_≡_, refl, _∙_, sym, ap, subst}
 use mathlib.Core.Bool.{Bool}
 use mathlib.Core.List.{List, [], _∷_}
@@ -38,7 +38,8 @@ module _ {X : Type 0} {said : Numbers X} {x : X} {m c : ℕ} where
   fails-exactly tests p k = let law = decided-with-exactly tests k in (λ t. law .0 (sym (p .number) ∙ t), λ h. p .number ∙ law .1 h)
 
   -- no other numbers come than 0 and the tests'
-  pub number-is : (P : ℕ → Type 0) (tests : List (Test ℕ)) → Promise said x (decide tests 0) m c x → OneOf P tests → P 0 → P (said .number x)
+  pub number-is : (P : ℕ → Type 0) (tests : List (Test ℕ)) → Promise said x (decide tests 0) m c x → OneOf P tests → P 0
+      → P (said .number x)
   number-is P tests p all zero = subst P (sym (p .number)) (answer-is P tests 0 all zero)
 
 -- ---- promises of a call's own answers
@@ -58,7 +59,8 @@ again-says w (given r) p = record { answer = refl; number = p .number; mask = p 
 again-says w (refused refusal) p = record { answer = refl; number = p .number; mask = p .mask; count = p .count }
 
 -- answers of code say what they mean
-means-says : {A X : Type 0} (means : X → Answer A) (x : X) (a : Answer A) (k m c : ℕ) → means x ≡ a → Says k m c a → Promise (numbersOf means) x k m c x
+means-says : {A X : Type 0} (means : X → Answer A) (x : X) (a : Answer A) (k m c : ℕ) → means x ≡ a → Says k m c a
+    → Promise (numbersOf means) x k m c x
 means-says {A} {X} means x a k m c same p =
     record {
       answer = refl;
@@ -120,7 +122,8 @@ module _ {R : Type 0} (f : Form R) (s : Sound f) where
     -- WRITING
     pub writing : (e : ℕ) (r : R) {a : Y} → a ≡ put (writeAs f e r)
         → Promise (numbersOf told) (put (writeAs f e r)) (decide (writeList f e r) 0) (recordMask f r) (recordCount f r) a
-    writing e r same = kept same (means-says told (put (writeAs f e r)) (writeAs f e r) _ _ _ (writes .same (writeAs f e r)) (write-says e r))
+    writing e r same = kept same (means-says told (put (writeAs f e r)) (writeAs f e r) _ _ _ (writes .same (writeAs f e r))
+        (write-says e r))
 
     -- refusal 6 of writing, exactly
     pub write-six-exactly : (e : ℕ) (r : R) (mask count : ℕ)
@@ -144,15 +147,18 @@ module _ {R : Type 0} (f : Form R) (s : Sound f) where
         record {
           answer = refl;
           number =
-              call-through (λ a. numberIn (carriedFrom refused (λ b. b) f reader r a)) (f .editions) (λ x. f .has x r) (f .writing r) writer (f .word r)
+              call-through (λ a. numberIn (carriedFrom refused (λ b. b) f reader r a)) (f .editions) (λ x. f .has x r) (f .writing r)
+              writer (f .word r)
               ∙ ap (decide (writeList f writer r)) (back-number f reader r);
           mask = named .0;
           count = named .1;
         }
       where
         by : (a : Answer ℕ) {k : ℕ} → Says k (recordMask f r) (recordCount f r) a
-            → (maskIn (carriedFrom refused (λ b. b) f reader r a) ≡ sixOnly (numberIn (carriedFrom refused (λ b. b) f reader r a)) (recordMask f r))
-            × (countIn (carriedFrom refused (λ b. b) f reader r a) ≡ sixOnly (numberIn (carriedFrom refused (λ b. b) f reader r a)) (recordCount f r))
+            → (maskIn (carriedFrom refused (λ b. b) f reader r a)
+            ≡ sixOnly (numberIn (carriedFrom refused (λ b. b) f reader r a)) (recordMask f r))
+            × (countIn (carriedFrom refused (λ b. b) f reader r a)
+            ≡ sixOnly (numberIn (carriedFrom refused (λ b. b) f reader r a)) (recordCount f r))
         by (given w) p = back-names f reader r
         by (refused refusal) p = (p .mask, p .count)
 
@@ -160,10 +166,12 @@ module _ {R : Type 0} (f : Form R) (s : Sound f) where
     pub carrying : {X : Type 0} (unwritten : Refusal → X) (read : Answer R → X) (means : X → Answer R)
         → ((refusal : Refusal) → means (unwritten refusal) ≡ refused refusal) → ((a : Answer R) → means (read a) ≡ a)
         → {c : X} → c ≡ carriedAs unwritten read f writer reader r
-        → Promise (numbersOf means) (carriedAs unwritten read f writer reader r) (carryNumber f writer reader r) (recordMask f r) (recordCount f r) c
+        → Promise (numbersOf means) (carriedAs unwritten read f writer reader r) (carryNumber f writer reader r) (recordMask f r)
+        (recordCount f r) c
     carrying unwritten read means of-refusal of-answer same =
         kept same
-        (means-says means (carriedAs unwritten read f writer reader r) (carriedAs refused (λ a. a) f writer reader r) _ _ _ (by (writeAs f writer r)) carry-says)
+        (means-says means (carriedAs unwritten read f writer reader r) (carriedAs refused (λ a. a) f writer reader r) _ _ _
+        (by (writeAs f writer r)) carry-says)
       where
         by : (a : Answer ℕ) → means (carriedFrom unwritten read f reader r a) ≡ carriedFrom refused (λ b. b) f reader r a
         by (given w) = of-answer (readBack f reader r)

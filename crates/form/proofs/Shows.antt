@@ -10,11 +10,13 @@ pub record Shows {A X : Type 0} (shown : Answer A → X) (means : X → Answer A
   pub same : (a : Answer A) → means (shown a) ≡ a
 
 -- two answers that are shown alike are one
-pub shown-alike : {A X : Type 0} {shown : Answer A → X} {means : X → Answer A} → Shows shown means → (a b : Answer A) → shown a ≡ shown b → a ≡ b
+pub shown-alike : {A X : Type 0} {shown : Answer A → X} {means : X → Answer A} → Shows shown means → (a b : Answer A) → shown a ≡ shown b
+    → a ≡ b
 shown-alike {A} {X} {shown} {means} s a b e = sym (s .same a) ∙ ap means e ∙ s .same b
 
 -- a word that is rewritten, by the answer that shows what reading answered
-module _ {R X Y : Type 0} {shown : Answer R → X} {means : X → Answer R} (reads : Shows shown means) (put : Answer ℕ → Y) (w : ℕ) (a : Answer R) where
+module _ {R X Y : Type 0} {shown : Answer R → X} {means : X → Answer R} (reads : Shows shown means) (put : Answer ℕ → Y) (w : ℕ)
+    (a : Answer R) where
   pub again-given : (r : R) → shown a ≡ shown (given r) → put (again w a) ≡ put (given w)
   again-given r took = ap (λ (b : Answer R). put (again w b)) (shown-alike reads a (given r) took)
 
@@ -22,7 +24,8 @@ module _ {R X Y : Type 0} {shown : Answer R → X} {means : X → Answer R} (rea
   again-refused refusal t = ap (λ (b : Answer R). put (again w b)) (shown-alike reads a (refused refusal) t)
 
 -- a record that is carried, by the answer that shows what writing answered
-module _ {R X Y : Type 0} {put : Answer ℕ → Y} {told : Y → Answer ℕ} (writes : Shows put told) (unwritten : Refusal → X) (read : Answer R → X) (f : Form R) (reader : ℕ) (r : R) (a : Answer ℕ) where
+module _ {R X Y : Type 0} {put : Answer ℕ → Y} {told : Y → Answer ℕ} (writes : Shows put told) (unwritten : Refusal → X)
+    (read : Answer R → X) (f : Form R) (reader : ℕ) (r : R) (a : Answer ℕ) where
   pub carried-given : (w : ℕ) → put a ≡ put (given w) → carriedFrom unwritten read f reader r a ≡ read (readBack f reader r)
   carried-given w out = ap (carriedFrom unwritten read f reader r) (shown-alike writes a (given w) out)
 

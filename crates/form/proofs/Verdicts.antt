@@ -1,5 +1,5 @@
--- A call whose own tests pass is decided by the judgement on the mask of the editions that have it: what code computes is what the tests say.
--- Assumes nothing.
+-- A call whose own tests pass is decided by the judgement on the mask of the editions that have it: what code computes is what the tests
+-- say. Assumes nothing.
 use mathlib.Core.Path.{_≡_, refl, _∙_, sym, ap}
 use mathlib.Core.Bool.{Bool, true, false, cond, _&&_, and-false}
 use mathlib.Core.List.{List}
@@ -19,8 +19,8 @@ use Rattle.form.specs.Answer.{Answer, given, refused}
 use Rattle.form.specs.Call.{someHas, others, callOf}
 use Rattle.form.proofs.Calls.{call-judged}
 
--- the editions that have a record which makes the word: code asks whether the record, put together, is the word, and a record that some edition has is
--- put together into its word
+-- the editions that have a record which makes the word: code asks whether the record, put together, is the word, and a record that some
+-- edition has is put together into its word
 pub made-mask : (n : ℕ) (has : ℕ → Bool) (joined word w : ℕ) → ((e : ℕ) → has e ≡ true → joined ≡ word)
     → cond (eqb joined w) (maskBelow n has) 0 ≡ maskBelow n (λ e. eqb word w && has e)
 made-mask n has joined word w made =

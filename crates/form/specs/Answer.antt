@@ -1,5 +1,5 @@
--- What a call answers (01, 'Numbers a call may answer'): 0 with what it gives, or a refusal with its number, mask and number of ones. No refusal
--- carries a record or a word.
+-- What a call answers (01, 'Numbers a call may answer'): 0 with what it gives, or a refusal with its number, mask and number of ones. No
+-- refusal carries a record or a word.
 use Prim.Native.Nat.{ℕ}
 use Rattle.edition.specs.declared.Refusal.{Refusal}
 use Rattle.edition.specs.Judge.{refusalNumber, refusalMask, refusalCount}

@@ -1,5 +1,5 @@
--- A call that goes by the edition, over n editions (01, 'Numbers a call may answer'): 1; then the tests that are the call's own; then 5 where no edition
--- has it; then 6, with the editions that have it and their number, where this edition doesn't.
+-- A call that goes by the edition, over n editions (01, 'Numbers a call may answer'): 1; then the tests that are the call's own; then 5
+-- where no edition has it; then 6, with the editions that have it and their number, where this edition doesn't.
 use Prim.Native.Nat.{ℕ}
 use mathlib.Core.Bool.{Bool, cond, not}
 use mathlib.Core.List.{List, [], _∷_, _++_}

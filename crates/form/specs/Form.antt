@@ -1,5 +1,5 @@
--- A form: its records, the word of each, which of its editions have it, the record at a word's bits, and the tests that are reading's and writing's own.
--- The record at a word's bits is free of editions: a word has one, whatever the edition.
+-- A form: its records, the word of each, which of its editions have it, the record at a word's bits, and the tests that are reading's and
+-- writing's own. The record at a word's bits is free of editions: a word has one, whatever the edition.
 use Prim.Native.Nat.{ℕ}
 use mathlib.Core.Bool.{Bool, cond, _&&_}
 use mathlib.Core.List.{List}
@@ -39,14 +39,15 @@ abbrev pub again : {R : Type 0} → ℕ → Answer R → Answer ℕ
 again w (given r) = given w
 again w (refused refusal) = refused refusal
 
--- DEMAND 3: what the reader's edition makes of a word that some edition put out for a record: that very record exactly when it has the record, and
--- otherwise refusal 6 with the editions that have it, and their number; a reader's edition that there is none of is refused 1
+-- DEMAND 3: what the reader's edition makes of a word that some edition put out for a record: that very record exactly when it has the
+-- record, and otherwise refusal 6 with the editions that have it, and their number; a reader's edition that there is none of is refused 1
 abbrev pub readBack : {R : Type 0} → Form R → ℕ → R → Answer R
 readBack f reader r =
     cond (ltb reader (f .editions)) (cond (f .has reader r) (given r) (refused (others (f .editions) (λ x. f .has x r))))
     (refused UnknownEdition)
 
--- a record that one edition writes and another reads: the writer's refusal, or what the reader makes of the word; both in the answers of code
+-- a record that one edition writes and another reads: the writer's refusal, or what the reader makes of the word; both in the answers of
+-- code
 abbrev pub carriedFrom : {R X : Type 0} → (Refusal → X) → (Answer R → X) → Form R → ℕ → R → Answer ℕ → X
 carriedFrom unwritten read f reader r (given w) = read (readBack f reader r)
 carriedFrom unwritten read f reader r (refused refusal) = unwritten refusal

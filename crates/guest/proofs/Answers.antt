@@ -11,7 +11,8 @@ use Rattle.status.specs.Sound.{sound}
 use Rattle.exception.specs.declared.state.Guest.{Guest}
 use Rattle.exception.specs.Vector.{aligned}
 use Rattle.guest.specs.declared.answer.Answer.{Answer}
-use Rattle.guest.specs.declared.answer.Answer.the-variants.{Accepted, UnsoundStatus, UnalignedVbar, UnwritableFault, WideAddress, WideDomain}
+use Rattle.guest.specs.declared.answer.Answer.the-variants.{Accepted, UnsoundStatus, UnalignedVbar, UnwritableFault, WideAddress}
+use Rattle.guest.specs.declared.answer.Answer.the-variants.{WideDomain}
 use Rattle.guest.specs.declared.injection.Injection.{Injection}
 use Rattle.guest.specs.declared.injector.Injected.{Injected}
 use Rattle.guest.specs.Answer.{answerNumber, injectionList}
@@ -86,7 +87,8 @@ accepted-state s i e = ap (λ (a : Answer). resulting a s (guestAfter s i)) e
 answerAt : ℕ → Answer
 answerAt n =
     cond (eqb n 0) Accepted
-    (cond (eqb n 9) UnsoundStatus (cond (eqb n 10) UnalignedVbar (cond (eqb n 11) UnwritableFault (cond (eqb n 12) WideAddress WideDomain))))
+    (cond (eqb n 9) UnsoundStatus (cond (eqb n 10) UnalignedVbar
+    (cond (eqb n 11) UnwritableFault (cond (eqb n 12) WideAddress WideDomain))))
 
 back : (a : Answer) → answerAt (answerNumber a) ≡ a
 unfolding answerAt

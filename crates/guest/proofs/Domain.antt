@@ -14,7 +14,8 @@ use Rattle.exception.specs.declared.state.Guest.{Guest}
 use Rattle.exception.specs.Vector.{aligned}
 use Rattle.exception.specs.Entry.{entered}
 use Rattle.guest.specs.declared.answer.Answer.{Answer}
-use Rattle.guest.specs.declared.answer.Answer.the-variants.{Accepted, UnsoundStatus, UnalignedVbar, UnwritableFault, WideAddress, WideDomain}
+use Rattle.guest.specs.declared.answer.Answer.the-variants.{Accepted, UnsoundStatus, UnalignedVbar, UnwritableFault, WideAddress}
+use Rattle.guest.specs.declared.answer.Answer.the-variants.{WideDomain}
 use Rattle.guest.specs.declared.injection.Access.{Access}
 use Rattle.guest.specs.declared.injection.Injection.{Injection}
 use Rattle.guest.specs.declared.injection.Injection.the-variants.{DataAbort}
@@ -43,7 +44,8 @@ module _ (s : Guest) (a : Access) where
   injectedBy dfsr fits =
       record {
         answer = answerBy dfsr fits;
-        state = resulting (answerBy dfsr fits) s (entered s (injectionRow (DataAbort a)) (accessWrites (s .faults) (codeIn dfsr) (a .address)));
+        state = resulting (answerBy dfsr fits) s (entered s (injectionRow (DataAbort a))
+            (accessWrites (s .faults) (codeIn dfsr) (a .address)));
       }
 
   -- OUTSIDE THE TWO CASES, and in the long format, a domain of 0 to 15 changes nothing: answer and whole state are those of domain 0

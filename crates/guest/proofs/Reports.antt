@@ -1,5 +1,5 @@
--- The report of an abort and the definition of an injection: each way through the tests gives the definition's answer, and the fault registers of one
--- that is taken.
+-- The report of an abort and the definition of an injection: each way through the tests gives the definition's answer, and the fault
+-- registers of one that is taken.
 use mathlib.Core.Path.{_≡_, refl, sym, ap, ap₂, _∙_}
 use mathlib.Core.Bool.{Bool, true, false, cond}
 use mathlib.Core.List.{[], _∷_}
@@ -15,9 +15,11 @@ use Rattle.exception.specs.declared.state.FaultRegisters.{FaultRegisters}
 use Rattle.exception.specs.declared.state.Guest.{Guest}
 use Rattle.exception.specs.Vector.{aligned}
 use Rattle.guest.specs.declared.answer.Answer.{Answer}
-use Rattle.guest.specs.declared.answer.Answer.the-variants.{Accepted, UnsoundStatus, UnalignedVbar, UnwritableFault, WideAddress, WideDomain}
+use Rattle.guest.specs.declared.answer.Answer.the-variants.{Accepted, UnsoundStatus, UnalignedVbar, UnwritableFault, WideAddress}
+use Rattle.guest.specs.declared.answer.Answer.the-variants.{WideDomain}
 use Rattle.guest.specs.declared.injection.Injection.{Injection}
-use Rattle.guest.specs.declared.injection.Injection.the-variants.{UndefinedAt, UndefinedAfter, SupervisorCall, PrefetchAbort, DataAbort}
+use Rattle.guest.specs.declared.injection.Injection.the-variants.{UndefinedAt, UndefinedAfter, SupervisorCall, PrefetchAbort}
+use Rattle.guest.specs.declared.injection.Injection.the-variants.{DataAbort}
 use Rattle.guest.specs.declared.injector.Injected.{Injected}
 use Rattle.guest.specs.declared.report.Report.{Report}
 use Rattle.guest.specs.declared.report.Report.the-variants.{Registers, NoStatus, NoDomain, NoAddress}
@@ -47,7 +49,8 @@ module _ (writes : ℕ → ℕ → FaultRegisters) where
     by : (x y z : Bool) → isCode e ≡ x → fits ≡ y → ltb a (2 ^ 32) ≡ z
         → cond x (cond y (cond z (Registers (writes (codeIn d) a)) NoAddress) NoDomain) NoStatus ≡ reportBy writes d fits a
     by x y z c f h =
-        ap₂ (λ (x z : Bool). cond x (cond y (cond z (Registers (writes (codeIn d) a)) NoAddress) NoDomain) NoStatus) (sym c ∙ ap isCode p) (sym h)
+        ap₂ (λ (x z : Bool). cond x (cond y (cond z (Registers (writes (codeIn d) a)) NoAddress) NoDomain) NoStatus) (sym c ∙ ap isCode p)
+        (sym h)
         ∙ told (λ (y : Bool). reportBy writes d y a) f
 
     pub unwritable : isCode e ≡ false → NoStatus ≡ reportBy writes d fits a
@@ -59,14 +62,16 @@ module _ (writes : ℕ → ℕ → FaultRegisters) where
     pub wide : isCode e ≡ true → fits ≡ true → ltb a (2 ^ 32) ≡ false → NoAddress ≡ reportBy writes d fits a
     wide = by true true false
 
-    pub written : {w : ℕ} → isCode e ≡ true → fits ≡ true → ltb a (2 ^ 32) ≡ true → w ≡ codeIn e → Registers (writes w a) ≡ reportBy writes d fits a
+    pub written : {w : ℕ} → isCode e ≡ true → fits ≡ true → ltb a (2 ^ 32) ≡ true → w ≡ codeIn e
+        → Registers (writes w a) ≡ reportBy writes d fits a
     written c f h q = ap (λ (n : ℕ). Registers (writes n a)) (q ∙ ap codeIn p) ∙ by true true true c f h
 
   -- the registers that are reported are those that the words make
   reported : (e : Encoding) (fits : Bool) (a : ℕ) {r : FaultRegisters} → reportBy writes e fits a ≡ Registers r → r ≡ writes (codeIn e) a
   reported e fits a {r} = go (isCode e) fits (ltb a (2 ^ 32))
     where
-      go : (x y z : Bool) → cond x (cond y (cond z (Registers (writes (codeIn e) a)) NoAddress) NoDomain) NoStatus ≡ Registers r → r ≡ writes (codeIn e) a
+      go : (x y z : Bool) → cond x (cond y (cond z (Registers (writes (codeIn e) a)) NoAddress) NoDomain) NoStatus ≡ Registers r
+          → r ≡ writes (codeIn e) a
       go true true true q = cc
       go true true false q = absurd-answer (cc)
       go true false z q = absurd-answer (cc)
@@ -82,7 +87,8 @@ fault-tests (PrefetchAbort f) old t = abort-tests (fetchWrites old) (ifsrWord (f
 fault-tests (DataAbort a) old t =
     abort-tests (accessWrites old) (dfsrWord (a .fault) (a .write) (a .domain) t) (leb (a .domain) 15) (a .address)
 
-pub registers : (i : Injection) (old : FaultRegisters) (t : ℕ) {r : FaultRegisters} → reportOf i old t ≡ Registers r → r ≡ faultsAfter i old t
+pub registers : (i : Injection) (old : FaultRegisters) (t : ℕ) {r : FaultRegisters} → reportOf i old t ≡ Registers r
+    → r ≡ faultsAfter i old t
 registers UndefinedAt old t d = cc
 registers UndefinedAfter old t d = cc
 registers SupervisorCall old t d = cc
@@ -109,6 +115,7 @@ module _ (s : Guest) (i : Injection) where
   unfolding injectionAnswer
   unaligned e d = rw (e, d)
 
-  pub judged : sound (s .marks) (s .status) ≡ true → aligned (s .vbar) ≡ true → injectionAnswer s i ≡ answerBy (reportOf i (s .faults) (s .ttbcr))
+  pub judged : sound (s .marks) (s .status) ≡ true → aligned (s .vbar) ≡ true
+      → injectionAnswer s i ≡ answerBy (reportOf i (s .faults) (s .ttbcr))
   unfolding injectionAnswer
   judged e d = rw (e, d) (fault-tests i (s .faults) (s .ttbcr))

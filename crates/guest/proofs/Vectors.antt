@@ -7,7 +7,8 @@ use Rattle.exception.specs.Vector.{vectorBase}
 use Rattle.exception.proofs.Vectors.{entered-pc}
 use Rattle.guest.specs.declared.answer.Answer.the-variants.{Accepted}
 use Rattle.guest.specs.declared.injection.Injection.{Injection}
-use Rattle.guest.specs.declared.injection.Injection.the-variants.{UndefinedAt, UndefinedAfter, SupervisorCall, PrefetchAbort, DataAbort}
+use Rattle.guest.specs.declared.injection.Injection.the-variants.{UndefinedAt, UndefinedAfter, SupervisorCall, PrefetchAbort}
+use Rattle.guest.specs.declared.injection.Injection.the-variants.{DataAbort}
 use Rattle.guest.specs.Injection.{injectionRow}
 use Rattle.guest.specs.Inject.{faultsAfter, guestAfter, injectionAnswer}
 use Rattle.guest.proofs.Answers.{accepted-exactly}

@@ -1,8 +1,10 @@
--- The number, mask and count of each answer (01, 'Numbers a call may answer'; 02, C-21: 20): only refusal 6 has a mask and a count, and no injection gives it.
+-- The number, mask and count of each answer (01, 'Numbers a call may answer'; 02, C-21: 20): only refusal 6 has a mask and a count, and no
+-- injection gives it.
 use Prim.Native.Nat.{ℕ}
 use mathlib.Core.List.{List, [], _∷_}
 use Rattle.guest.specs.declared.answer.Answer.{Answer}
-use Rattle.guest.specs.declared.answer.Answer.the-variants.{Accepted, UnsoundStatus, UnalignedVbar, UnwritableFault, WideAddress, WideDomain}
+use Rattle.guest.specs.declared.answer.Answer.the-variants.{Accepted, UnsoundStatus, UnalignedVbar, UnwritableFault, WideAddress}
+use Rattle.guest.specs.declared.answer.Answer.the-variants.{WideDomain}
 
 abbrev pub answerNumber : Answer → ℕ
 answerNumber Accepted = 0

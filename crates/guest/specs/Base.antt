@@ -1,6 +1,6 @@
--- 01's injection as it stood before request C-15, for states that have none of its features: test 9 and the new status word were the base's (status,
--- specs/Base.antt). Test 20 and the domain of C-21 stand in it as they do now: the law `unmarked-injected` (proofs/Unmarked.antt) says that where nothing is
--- marked, what holds now is what holds without C-15.
+-- 01's injection as it stood before request C-15, for states that have none of its features: test 9 and the new status word were the base's
+-- (status, specs/Base.antt). Test 20 and the domain of C-21 stand in it as they do now: the law `unmarked-injected` (proofs/Unmarked.antt)
+-- says that where nothing is marked, what holds now is what holds without C-15.
 use mathlib.Core.List.{List, [], _∷_}
 use Rattle.bits.specs.Decide.{Test, needs, decide}
 use Rattle.status.specs.Base.{baseSound, baseEntryStatus}
@@ -8,7 +8,8 @@ use Rattle.exception.specs.declared.state.Guest.{Guest}
 use Rattle.exception.specs.Vector.{aligned}
 use Rattle.exception.specs.Entry.{enteredWith}
 use Rattle.guest.specs.declared.answer.Answer.{Answer}
-use Rattle.guest.specs.declared.answer.Answer.the-variants.{Accepted, UnsoundStatus, UnalignedVbar, UnwritableFault, WideAddress, WideDomain}
+use Rattle.guest.specs.declared.answer.Answer.the-variants.{Accepted, UnsoundStatus, UnalignedVbar, UnwritableFault, WideAddress}
+use Rattle.guest.specs.declared.answer.Answer.the-variants.{WideDomain}
 use Rattle.guest.specs.declared.injection.Injection.{Injection}
 use Rattle.guest.specs.declared.injector.Injected.{Injected}
 use Rattle.guest.specs.Injection.{injectionRow}

@@ -1,5 +1,5 @@
--- What the two calls that inject promise (01, 'Numbers a call may answer' and 'How tight each statement is'): the answer and the whole state after it,
--- and the answer's number, mask and count.
+-- What the two calls that inject promise (01, 'Numbers a call may answer' and 'How tight each statement is'): the answer and the whole
+-- state after it, and the answer's number, mask and count.
 use mathlib.Core.Path.{_≡_}
 use Rattle.bits.specs.Decide.{decide}
 use Rattle.exception.specs.declared.state.Guest.{Guest}

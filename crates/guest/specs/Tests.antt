@@ -1,4 +1,5 @@
--- The tests of an injection (01, 'Numbers a call may answer': "Injecting tests 9, 10, 11, 12"; 02, C-21: 20 "after 11 and before 12, in either format").
+-- The tests of an injection (01, 'Numbers a call may answer': "Injecting tests 9, 10, 11, 12"; 02, C-21: 20 "after 11 and before 12, in
+-- either format").
 use Prim.Native.Nat.{ℕ, _^_}
 use mathlib.Core.Bool.{Bool, true}
 use mathlib.Core.List.{List, [], _∷_}
@@ -11,7 +12,8 @@ use Rattle.exception.specs.Vector.{aligned}
 use Rattle.guest.specs.declared.answer.Answer.{Answer}
 use Rattle.guest.specs.declared.answer.Answer.the-variants.{UnsoundStatus, UnalignedVbar, UnwritableFault, WideAddress, WideDomain}
 use Rattle.guest.specs.declared.injection.Injection.{Injection}
-use Rattle.guest.specs.declared.injection.Injection.the-variants.{UndefinedAt, UndefinedAfter, SupervisorCall, PrefetchAbort, DataAbort}
+use Rattle.guest.specs.declared.injection.Injection.the-variants.{UndefinedAt, UndefinedAfter, SupervisorCall, PrefetchAbort}
+use Rattle.guest.specs.declared.injection.Injection.the-variants.{DataAbort}
 
 -- 11: an abort's fault can be written in its register, in the format that TTBCR chooses
 abbrev pub writable : Injection → ℕ → Bool

@@ -1,5 +1,5 @@
--- Where IL must be 1 in every form (01, 'Layout of the word', source 004, 'IL', and 02, C-13): for EC 0x00, 0x0E and 0x20, for trapped instructions that have no
--- 16-bit form, and for 0x24 when ISV is 0. A form's own rule says the rest.
+-- Where IL must be 1 in every form (01, 'Layout of the word', source 004, 'IL', and 02, C-13): for EC 0x00, 0x0E and 0x20, for trapped
+-- instructions that have no 16-bit form, and for 0x24 when ISV is 0. A form's own rule says the rest.
 use Prim.Native.Nat.{ℕ}
 use mathlib.Core.Bool.{Bool, not, _&&_, _||_}
 use lib.Dec.{eqb}

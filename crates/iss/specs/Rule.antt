@@ -1,4 +1,5 @@
--- Rules of fields of the ISS that both forms have (01, 'Layout of the word'; 02, C-13). What they need of the class or the edition is handed to them.
+-- Rules of fields of the ISS that both forms have (01, 'Layout of the word'; 02, C-13). What they need of the class or the edition is
+-- handed to them.
 use Prim.Native.Nat.{ℕ}
 use mathlib.Core.Bool.{Bool, not, _&&_, _||_}
 use lib.Dec.{leb, ltb, eqb}

@@ -1,6 +1,7 @@
 // Rules of single fields of the ISS, which every form of a syndrome word shares.
 ghost use mathlib.Core.Path.{_≡_};
-ghost use Rattle.iss.specs.Rule.{conditionRule, addressingRule, passedRule, mmuFault, externalRule, walkRule, abortRule, extensionRule, maintenanceRule, directionRule, immediateRule};
+ghost use Rattle.iss.specs.Rule.{conditionRule, addressingRule, passedRule, mmuFault, externalRule, walkRule, abortRule};
+ghost use Rattle.iss.specs.Rule.{extensionRule, maintenanceRule, directionRule, immediateRule};
 ghost use Rattle.iss.specs.Il.{wideOnly, ilNeeded};
 
 // CV 1 with COND 1111 is no condition of a trapped instruction.

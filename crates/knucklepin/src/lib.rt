@@ -144,8 +144,8 @@ fn form_number(f: Fields) -> u64
     }
 }
 
-// The form of a word that is an A32 load or store: its transfer's number, and 16 more with a register, 32 for a literal; 48 for STM and 49 for LDM.
-// All ones where the word is none.
+// The form of a word that is an A32 load or store: its transfer's number, and 16 more with a register, 32 for a literal; 48 for STM and 49
+// for LDM. All ones where the word is none.
 #[no_mangle]
 pub extern "C" fn knucklepin_a32_form(word: u32) -> u64
     ensures { λ n. ⌜ n ≡ a32Form word ⌝ }

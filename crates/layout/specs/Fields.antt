@@ -1,5 +1,6 @@
--- The layout lines (01, 'Layout of the word'; for C-20's classes source 001; for C-23's 02): where a record's class, IL and fields stand in the word. Bits that no line names are 0: so
--- are IDS and IESB of an SError interrupt and VNCR of a watchpoint, which need features that no edition has.
+-- The layout lines (01, 'Layout of the word'; for C-20's classes source 001; for C-23's 02): where a record's class, IL and fields stand in
+-- the word. Bits that no line names are 0: so are IDS and IESB of an SError interrupt and VNCR of a watchpoint, which need features that no
+-- edition has.
 use Prim.Native.Nat.{ℕ}
 use mathlib.Core.Bool.{Bool}
 use mathlib.Core.List.{List, [], _∷_}
@@ -93,7 +94,8 @@ serrorFields r = head 0x2F (r .il) (at 12 10 (r .aet) ∷ flagAt 9 (r .ea) ∷ a
 abbrev pub systemFields : System → List Field
 systemFields r =
     head 0x18 (r .il)
-    (at 21 20 (r .op0) ∷ at 19 17 (r .op2) ∷ at 16 14 (r .op1) ∷ at 13 10 (r .crn) ∷ at 9 5 (r .rt) ∷ at 4 1 (r .crm) ∷ flagAt 0 (r .direction) ∷ [])
+    (at 21 20 (r .op0) ∷ at 19 17 (r .op2) ∷ at 16 14 (r .op1) ∷ at 13 10 (r .crn) ∷ at 9 5 (r .rt) ∷ at 4 1 (r .crm)
+    ∷ flagAt 0 (r .direction) ∷ [])
 
 abbrev pub fieldsOf : Record → List Field
 fieldsOf (Record.Plain r) = plainFields r

@@ -1,8 +1,11 @@
-// A record put together into a word, each field cut to its bits. Nothing is judged here. The kinds without a register are the short form's too.
+// A record put together into a word, each field cut to its bits. Nothing is judged here. The kinds without a register are the short form's
+// too.
 ghost use mathlib.Core.Path.{_≡_};
 ghost use mathlib.Core.List.{[]};
 ghost use Rattle.bits.specs.Inner.{joinedFrom};
-ghost use Rattle.layout.specs.Fields.{head, condition, plainFields, wfxFields, mcrFields, mcrrFields, ldcFields, simdFields, callFields, smcFields, instructionAbortFields, dataAbortFields, debugFields, stepFields, watchpointFields, serrorFields, systemFields, fieldsOf};
+ghost use Rattle.layout.specs.Fields.{head, condition, plainFields, wfxFields, mcrFields, mcrrFields, ldcFields, simdFields};
+ghost use Rattle.layout.specs.Fields.{callFields, smcFields, instructionAbortFields, dataAbortFields, debugFields, stepFields};
+ghost use Rattle.layout.specs.Fields.{watchpointFields, serrorFields, systemFields, fieldsOf};
 use bits::flag;
 use bits::place;
 use record::Call;

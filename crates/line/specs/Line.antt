@@ -1,4 +1,5 @@
--- The line of the program (01, the last lines of 'Cases', and 02, C-16): one hexadecimal digit for the edition, a space, 16 hexadecimal digits, all of either case. Every other line is no line.
+-- The line of the program (01, the last lines of 'Cases', and 02, C-16): one hexadecimal digit for the edition, a space, 16 hexadecimal
+-- digits, all of either case. Every other line is no line.
 use Prim.Native.Nat.{ℕ, _+_, _*_}
 use Prim.Native.Char.{code}
 use mathlib.Core.Bool.{cond, _&&_}

@@ -19,8 +19,16 @@ use Rattle.log.specs.declared.answer.Read.the-variants.{Accepted, TooLon
 -- what holds of each refusal holds of what every test gives
 pub each-refusal : (P : Read → Type 0) (s : List ℕ)
     → P TooLong → ((n : ℕ) → 1 ≤ n → n ≤ 4 → P (CutShort n)) → P LeftOver → P Unequal → P WideDomain → OneOf P (readTests s)
-each-refusal P s long cut left unequal wide =
-    (long, (cut 1 (lit≤ tt) (lit≤ tt), (cut 2 (lit≤ tt) (lit≤ tt), (cut 3 (lit≤ tt) (lit≤ tt), (cut 4 (lit≤ tt) (lit≤ tt), (left, (unequal, (wide, tt))))))))
+each-refusal P s long cut left unequal wide = (
+  long,
+  (
+    cut 1 (lit≤ tt) (lit≤ tt),
+    (
+      cut 2 (lit≤ tt) (lit≤ tt),
+      (cut 3 (lit≤ tt) (lit≤ tt), (cut 4 (lit≤ tt) (lit≤ tt), (left, (unequal, (wide, tt))))),
+    ),
+  ),
+)
 
 -- ---- the promise, by its equation alone
 

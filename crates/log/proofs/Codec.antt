@@ -59,7 +59,12 @@ module _ {A : Type 0} (size : ℕ) (bytes : A → List ℕ) (read : List ℕ →
       → entriesIn size read (length entries) (entryBytes bytes entries ++ rest) ≡ entries
   entries-back [] rest f = refl
   entries-back (a ∷ more) rest f =
-      rw (append-assoc (bytes a) (entryBytes bytes more) rest, back a (entryBytes bytes more ++ rest) (f .0), drop-at (bytes a) (entryBytes bytes more ++ rest) size (sized a))
+      rw (
+        append-assoc (bytes a) (entryBytes bytes more) rest,
+        back a (entryBytes bytes more ++ rest) (f .0),
+        drop-at (bytes a)
+            (entryBytes bytes more ++ rest) size (sized a),
+      )
       (ap (λ (after : List A). a ∷ after) (entries-back more rest (f .1)))
 
   pub entries-again : (n : ℕ) (s : List ℕ) → Bytes s → n * size ≤ length s → entryBytes bytes (entriesIn size read n s) ≡ take (n * size) s
@@ -100,7 +105,8 @@ module _ {A : Type 0} (size : ℕ) (bytes : A → List ℕ) (read : List ℕ →
 
     section-whole : wholeOf size made ≡ true
     section-whole =
-        let l : length made ≡ endOf size made + length rest = length-append (sectionBytes bytes entries) rest ∙ ap (λ (n : ℕ). n + length rest) section-end in
+        let l : length made ≡ endOf size made + length rest = length-append (sectionBytes bytes entries) rest
+        ∙ ap (λ (n : ℕ). n + length rest) section-end in
         simp (le-leb 4 (length made) (omega arith), le-leb (endOf size made) (length made) (omega arith))
 
     section-back : Each Fits entries → entriesIn size read (countOf made) (drop 4 made) ≡ entries

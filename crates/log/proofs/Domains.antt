@@ -61,7 +61,8 @@ pub domains-fit-exactly : (injections : List ℕ)
 domains-fit-exactly injections = (each-fits injections, all-fit injections)
 
 -- BY SIZE ALONE: injections that differ in their first bytes are judged alike
-pub first-bytes-free : (injections others : List ℕ) → map domainOf injections ≡ map domainOf others → domainsFit injections ≡ domainsFit others
+pub first-bytes-free : (injections others : List ℕ) → map domainOf injections ≡ map domainOf others
+    → domainsFit injections ≡ domainsFit others
 first-bytes-free injections others e = sym (by-domains injections) ∙ ap fits e ∙ by-domains others
   where
     fits : List ℕ → Bool

@@ -42,15 +42,24 @@ module _ (s : List ℕ) {gone : ℕ} (e : readOf s ≡ Accepted gone) where
   start-within : (n : ℕ) → n ≤ 4 → startAfter s n ≤ length s
   start-within zero h = omega arith
   start-within (suc n) h =
-      omega (arith, start-within n (omega arith), whole-section n (omega arith) .within, ap length (rest-at s n), length-drop (startAfter s n) s)
+      omega (
+        arith,
+        start-within n (omega arith),
+        whole-section n (omega arith) .within,
+        ap length (rest-at s n),
+        length-drop
+            (startAfter s n) s,
+      )
 
   -- each section stands at its start, with its count
-  pub section-stands-at : (n : ℕ) → n < 4 → sectionAt s n (startAfter s n) ≡ Section.Whole (countAfter s n) (endOf (getD sizes n 0) (restAfter s n))
+  pub section-stands-at : (n : ℕ) → n < 4 → sectionAt s n (startAfter s n)
+      ≡ Section.Whole (countAfter s n) (endOf (getD sizes n 0) (restAfter s n))
   section-stands-at n h =
       let w = whole-section n h in
       sym (place-in s n (startAfter s n) h (start-within n (omega arith)))
       ∙ ap (sectionOf (getD sizes n 0)) (sym (rest-at s n))
-      ∙ sym (is-found (getD sizes n 0) (restAfter s n) (countAfter s n) (endOf (getD sizes n 0) (restAfter s n)) (w .counted) refl refl (w .within))
+      ∙ sym (is-found (getD sizes n 0) (restAfter s n) (countAfter s n) (endOf (getD sizes n 0) (restAfter s n)) (w .counted) refl refl
+      (w .within))
 
   -- the reader that moves past n sections stands at section n + 1
   pub moved-to : (n k : ℕ) → k + n ≤ 4
@@ -71,7 +80,8 @@ module _ (s : List ℕ) {gone : ℕ} (e : readOf s ≡ Accepted gone) where
   given-in : (n i : ℕ) → n < 4 → i < countAfter s n → entryIn n (drop (i * getD sizes n 0) (bodyAfter s n)) ≡ entryGiven (entriesOf s) n i
   unfolding entriesOf
   given-in zero i h k = ap Entry.Edition (sym (entry-at 1 byteIn (countAfter s 0) (bodyAfter s 0) i 0 k))
-  given-in (suc zero) i h k = ap (λ (w : ℕ). Entry.Syndrome (record { 0 = w })) (sym (entry-at 8 wordIn (countAfter s 1) (bodyAfter s 1) i 0 k))
+  given-in (suc zero) i h k = ap (λ (w : ℕ). Entry.Syndrome (record { 0 = w }))
+      (sym (entry-at 8 wordIn (countAfter s 1) (bodyAfter s 1) i 0 k))
   given-in (suc (suc zero)) i h k =
       ap (λ (a : Address). Entry.Address (record { 0 = a .far }) (record { 0 = a .hpfar }))
       (sym (entry-at 16 pairIn (countAfter s 2) (bodyAfter s 2) i nowhere k))
@@ -81,12 +91,20 @@ module _ (s : List ℕ) {gone : ℕ} (e : readOf s ≡ Accepted gone) where
   given-in (suc (suc (suc (suc n)))) i h k = absurd (omega arith)
 
   pub entry-found : (n i : ℕ) → n < 4 → i < countAfter s n
-      → lookAt s n (startAfter s n) i ≡ record { section = Section.Whole (countAfter s n) (endOf (getD sizes n 0) (restAfter s n)); entry = entryGiven (entriesOf s) n i }
+      → lookAt s n (startAfter s n) i ≡ record {
+        section = Section.Whole (countAfter s n) (endOf (getD sizes n 0) (restAfter s n));
+        entry
+            = entryGiven (entriesOf s) n i;
+      }
   entry-found n i h k =
       sym (look-found s n (startAfter s n) i (section-stands-at n h) k)
       ∙ ap (λ (x : Entry). record { section = Section.Whole (countAfter s n) (endOf (getD sizes n 0) (restAfter s n)); entry = x })
       (ap (entryIn n) (body-at n i) ∙ given-in n i h k)
 
   pub entry-past : (n i : ℕ) → n < 4 → countAfter s n ≤ i
-      → lookAt s n (startAfter s n) i ≡ record { section = Section.Whole (countAfter s n) (endOf (getD sizes n 0) (restAfter s n)); entry = Entry.None }
+      → lookAt s n (startAfter s n) i ≡ record {
+        section = Section.Whole (countAfter s n) (endOf (getD sizes n 0) (restAfter s n));
+        entry
+            = Entry.None;
+      }
   entry-past n i h k = sym (look-past s n (startAfter s n) i (section-stands-at n h) k)

@@ -16,7 +16,8 @@ use Rattle.log.specs.declared.answer.Read.the-variants.{Accepted, CutSho
 use Rattle.log.proofs.Answers.{cut-short-exactly}
 use Rattle.log.proofs.Codec.{Stands}
 use Rattle.log.proofs.Found.{not-found, entries-cut}
-use Rattle.log.proofs.RoundTrip.{none, numbers-length, numbers-stand, Writable, threeThen, three-length, editions-stand, syndromes-stand, addresses-stand, log-accepted, log-entries}
+use Rattle.log.proofs.RoundTrip.{none, numbers-length, numbers-stand, Writable, threeThen, three-length, editions-stand}
+use Rattle.log.proofs.RoundTrip.{syndromes-stand, addresses-stand, log-accepted, log-entries}
 
 -- WITH AN INJECTION: the last section is one byte short for each
 module _ (e : Entries) (short : length (olderLog e) ≤ 65536) where
@@ -38,7 +39,8 @@ module _ (e : Entries) (short : length (olderLog e) ≤ 65536) where
 
   counted : Stands 1 (length (e .injections)) (restAfter s 3) []
   counted =
-      numbers-stand 1 (e .injections) [] (restAfter s 3) (omega (arith, three-length e last, ap length is, numbers-length 1 (e .injections)))
+      numbers-stand 1 (e .injections) [] (restAfter s 3)
+      (omega (arith, three-length e last, ap length is, numbers-length 1 (e .injections)))
       (rest ∙ sym (append-nil last))
 
   cut : 0 < length (e .injections) → wholeAfter s 3 ≡ false
@@ -50,7 +52,13 @@ module _ (e : Entries) (short : length (olderLog e) ≤ 65536) where
   older-refused some =
       cut-short-exactly s 4 (lit≤ tt) (lit≤ tt) .1 (
         le-leb (length s) 65536 short,
-        (editions-stand e last s is short .whole, (syndromes-stand e last s is short .whole, (addresses-stand e last s is short .whole, cut some))),
+        (
+          editions-stand e last s is short .whole,
+          (
+            syndromes-stand e last s is short .whole,
+            (addresses-stand e last s is short .whole, cut some),
+          ),
+        ),
       )
 
 -- WITHOUT: it is a log of today's form

@@ -24,7 +24,8 @@ place-past s passed at h = sym (simp (le-ltb passed 4 h))
 pub place-out : (s : List ℕ) (passed at : ℕ) → passed < 4 → length s < at → Section.None ≡ sectionAt s passed at
 place-out s passed at h k = sym (simp (lt-ltb passed 4 h, lt-leb at (length s) k))
 
-pub place-in : (s : List ℕ) (passed at : ℕ) → passed < 4 → at ≤ length s → sectionOf (getD sizes passed 0) (drop at s) ≡ sectionAt s passed at
+pub place-in : (s : List ℕ) (passed at : ℕ) → passed < 4 → at ≤ length s
+    → sectionOf (getD sizes passed 0) (drop at s) ≡ sectionAt s passed at
 place-in s passed at h k = sym (simp (lt-ltb passed 4 h, le-leb at (length s) k))
 
 -- what a section that stands at a place tells of it
@@ -38,7 +39,8 @@ standing-by : (t : Bool) (x : Section) {count end : ℕ} → cond t x Section.No
 standing-by true x e = (refl, e)
 standing-by false x e = let z : _≡_ {A = ℕ} 0 1 = cc in absurd (omega arith)
 
-pub standing : (s : List ℕ) (passed at : ℕ) {count end : ℕ} → sectionAt s passed at ≡ Section.Whole count end → Standing s passed at count end
+pub standing : (s : List ℕ) (passed at : ℕ) {count end : ℕ} → sectionAt s passed at ≡ Section.Whole count end
+    → Standing s passed at count end
 standing s passed at e =
     let t = standing-by (ltb passed 4 && leb at (length s)) (sectionOf (getD sizes passed 0) (drop at s)) e in
     let b = both-true (ltb passed 4) (leb at (length s)) (t .0) in
@@ -73,16 +75,19 @@ skip-more s (suc n) p h =
 
 -- what a look at a place answers, by the section that stands there
 module _ (s : List ℕ) (passed at i : ℕ) where
-  look-by : {x : Section} {e : Entry} → sectionAt s passed at ≡ x → entryOf s passed at i x ≡ e → _≡_ {A = Look} record { section = x; entry = e } (lookAt s passed at i)
+  look-by : {x : Section} {e : Entry} → sectionAt s passed at ≡ x → entryOf s passed at i x ≡ e
+      → _≡_ {A = Look} record { section = x; entry = e } (lookAt s passed at i)
   look-by p q = rw (p, q)
 
   pub look-found : {count end : ℕ} → sectionAt s passed at ≡ Section.Whole count end → i < count
-      → _≡_ {A = Look} record { section = Section.Whole count end; entry = entryIn passed (drop (at + 4 + i * getD sizes passed 0) s) } (lookAt s passed at i)
+      → _≡_ {A = Look} record { section = Section.Whole count end; entry = entryIn passed (drop (at + 4 + i * getD sizes passed 0) s) }
+      (lookAt s passed at i)
   look-found {count} p h = look-by p (simp (lt-ltb i count h))
 
   pub look-past : {count end : ℕ} → sectionAt s passed at ≡ Section.Whole count end → count ≤ i
       → _≡_ {A = Look} record { section = Section.Whole count end; entry = Entry.None } (lookAt s passed at i)
   look-past {count} p h = look-by p (simp (le-ltb i count h))
 
-  pub look-none : sectionAt s passed at ≡ Section.None → _≡_ {A = Look} record { section = Section.None; entry = Entry.None } (lookAt s passed at i)
+  pub look-none : sectionAt s passed at ≡ Section.None
+      → _≡_ {A = Look} record { section = Section.None; entry = Entry.None } (lookAt s passed at i)
   look-none p = look-by p refl

@@ -1,5 +1,5 @@
--- The laws of request C-14 on the format: a log that is accepted is the log of its entries, and the log of any entries is accepted with them.
--- Assumes nothing.
+-- The laws of request C-14 on the format: a log that is accepted is the log of its entries, and the log of any entries is accepted with
+-- them. Assumes nothing.
 use mathlib.Core.Path.{_≡_, refl, sym, ap, subst, _∙_}
 use mathlib.Core.Bool.{true}
 use mathlib.Core.List.{List, [], _∷_, _++_, append-assoc, append-nil}
@@ -13,7 +13,8 @@ use lib.Seq.{take-at, drop-at, take-add, take-append-le, length-take-le}
 use Rattle.log.specs.Number.{little, number, Bytes}
 use Rattle.bits.proofs.Deciding.{all-pass}
 use Rattle.log.specs.Section.{injectionSize, sizes, countOf, endOf, wholeOf, afterOf, restAfter, countAfter}
-use Rattle.log.specs.Log.{Address, Entries, byte, word, pair, injection, byteIn, wordIn, pairIn, domainsFit, sectionBytes, entriesIn, logOf, bodyAfter, injectionsOf, entriesOf, goneThrough}
+use Rattle.log.specs.Log.{Address, Entries, byte, word, pair, injection, byteIn, wordIn, pairIn, domainsFit, sectionBytes, entriesIn}
+use Rattle.log.specs.Log.{logOf, bodyAfter, injectionsOf, entriesOf, goneThrough}
 use Rattle.log.specs.Answer.{readTests, readOf}
 use Rattle.log.specs.declared.answer.Read.the-variants.{Accepted}
 use Rattle.log.proofs.Answers.{Gone, read-gone, all-passed}
@@ -67,10 +68,12 @@ pair-sized a = rw (length-append, length-little 8 (a .far), length-little 8 (a .
 
 pair-back : (a : Address) (rest : List ℕ) → PairFits a → pairIn (pair a ++ rest) ≡ a
 pair-back a rest f =
-    let e : pair a ++ rest ≡ little 8 (a .far) ++ (little 8 (a .hpfar) ++ rest) = append-assoc (little 8 (a .far)) (little 8 (a .hpfar)) rest in
+    let e : pair a ++ rest ≡ little 8 (a .far) ++ (little 8 (a .hpfar) ++ rest) = append-assoc (little 8 (a .far)) (little 8 (a .hpfar))
+    rest in
     let far : wordIn (pair a ++ rest) ≡ a .far = ap wordIn e ∙ number-back 8 (a .far) (little 8 (a .hpfar) ++ rest) (f .far) in
     let hpfar : wordIn (drop 8 (pair a ++ rest)) ≡ a .hpfar =
-    ap (λ (s : List ℕ). wordIn (drop 8 s)) e ∙ ap wordIn (drop-at (little 8 (a .far)) (little 8 (a .hpfar) ++ rest) 8 (length-little 8 (a .far)))
+    ap (λ (s : List ℕ). wordIn (drop 8 s)) e ∙ ap wordIn
+    (drop-at (little 8 (a .far)) (little 8 (a .hpfar) ++ rest) 8 (length-little 8 (a .far)))
     ∙ number-back 8 (a .hpfar) rest (f .hpfar) in
     rw (far, hpfar)
 
@@ -147,15 +150,16 @@ module _ (s : List ℕ) (b : Bytes s) where
 pub entries-agree : (s : List ℕ) {gone : ℕ} → readOf s ≡ Accepted gone → length (entriesOf s .syndromes) ≡ length (entriesOf s .addresses)
 unfolding entriesOf
 entries-agree s e =
-    entries-count 8 wordIn (countAfter s 1) (bodyAfter s 1) ∙ accepts s e .agree ∙ sym (entries-count 16 pairIn (countAfter s 2) (bodyAfter s 2))
+    entries-count 8 wordIn (countAfter s 1) (bodyAfter s 1) ∙ accepts s e .agree
+    ∙ sym (entries-count 16 pairIn (countAfter s 2) (bodyAfter s 2))
 
 -- and each of its domains is at most 15
 pub entries-fit : (s : List ℕ) {gone : ℕ} → readOf s ≡ Accepted gone → domainsFit (entriesOf s .injections) ≡ true
 unfolding entriesOf
 entries-fit s e = accepts s e .domains
 
--- what the writer's slices and tests make sure of entries: they fit, syndromes and addresses agree, each domain is at most 15, and the log is not
--- too long
+-- what the writer's slices and tests make sure of entries: they fit, syndromes and addresses agree, each domain is at most 15, and the log
+-- is not too long
 pub record Writable (e : Entries) : Type 0 where
   pub editions : Each (Fitting 1) (e .editions)
   pub syndromes : Each (Fitting 8) (e .syndromes)
@@ -200,7 +204,8 @@ module _ (e : Entries) (fourth : List ℕ) where
 
     pub addresses-stand : Stands 16 (length (e .addresses)) (restAfter s 2) fourth
     addresses-stand =
-        section-stands 16 pair pairIn PairFits pair-sized pair-back pair-again (e .addresses) fourth (restAfter s 2) (omega (arith, measured))
+        section-stands 16 pair pairIn PairFits pair-sized pair-back pair-again (e .addresses) fourth (restAfter s 2)
+        (omega (arith, measured))
         (syndromes-stand .after)
 
 pub log-length : (e : Entries) → length (logOf e)
@@ -220,7 +225,8 @@ module _ (e : Entries) (w : Writable e) where
   unfolding logOf
   is = refl
 
-  few : (length (e .editions) < 2 ^ 32) × (length (e .syndromes) < 2 ^ 32) × (length (e .addresses) < 2 ^ 32) × (length (e .injections) < 2 ^ 32)
+  few : (length (e .editions) < 2 ^ 32) × (length (e .syndromes) < 2 ^ 32) × (length (e .addresses) < 2 ^ 32)
+      × (length (e .injections) < 2 ^ 32)
   few =
       let l = log-length e in
       let h = w .short in
@@ -278,6 +284,7 @@ module _ (e : Entries) (w : Writable e) where
       rw (
         numbers-read 1 (e .editions) (second e last) s (few .0) is (w .editions),
         numbers-read 8 (e .syndromes) (third e last) (restAfter s 1) (few .1) (editions .after) (w .syndromes),
-        section-read 16 pair pairIn PairFits pair-sized pair-back pair-again (e .addresses) last (restAfter s 2) (few .2) (syndromes .after) (w .addresses),
+        section-read 16 pair pairIn PairFits pair-sized pair-back pair-again (e .addresses) last (restAfter s 2) (few .2)
+            (syndromes .after) (w .addresses),
         injections-back,
       )

@@ -1,4 +1,5 @@
--- Requests C-14 and C-21: what reading a log answers, for every slice of bytes, with the number, the section and the number gone through of each answer.
+-- Requests C-14 and C-21: what reading a log answers, for every slice of bytes, with the number, the section and the number gone through of
+-- each answer.
 use Prim.Native.Nat.{ℕ}
 use mathlib.Core.Path.{_≡_}
 use mathlib.Core.Bool.{cond}
@@ -37,8 +38,8 @@ goneIn LeftOver = 0
 goneIn Unequal = 0
 goneIn WideDomain = 0
 
--- THE TESTS in their order, each with what comes where it fails: at most 65,536 bytes; each section whole, the smaller number first; nothing
--- left over after the last; the syndrome and address counts agree; each injection's domain is at most 15
+-- THE TESTS in their order, each with what comes where it fails: at most 65,536 bytes; each section whole, the smaller number first;
+-- nothing left over after the last; the syndrome and address counts agree; each injection's domain is at most 15
 module _ {A : Type 0} (tooLong : A) (cutShort : ℕ → A) (leftOver unequal wideDomain : A) where
   abbrev pub testsOf : List ℕ → List (Test A)
   testsOf s =

@@ -1,4 +1,5 @@
--- Access by entry: a place in a log, the section that stands there, and its entries. A place is how many sections and how many bytes lie before it.
+-- Access by entry: a place in a log, the section that stands there, and its entries. A place is how many sections and how many bytes lie
+-- before it.
 use Prim.Native.Nat.{ℕ, zero, suc, _+_, _*_}
 use mathlib.Core.Bool.{cond, _&&_}
 use mathlib.Core.List.{List}

@@ -1,5 +1,5 @@
--- Request C-14, "Sections in a fixed order, each after its count of entries": the section that some bytes begin with, and the rest of the log
--- that is handed on after it.
+-- Request C-14, "Sections in a fixed order, each after its count of entries": the section that some bytes begin with, and the rest of the
+-- log that is handed on after it.
 use Prim.Native.Nat.{ℕ, zero, suc, _+_, _*_}
 use mathlib.Core.Bool.{Bool, cond, _&&_}
 use mathlib.Core.List.{List, [], _∷_}

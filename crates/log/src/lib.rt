@@ -1,8 +1,8 @@
 // A trap log: what a board saw, in four sections of bytes that a fitter can send.
 //
 // Each section is its count of entries, 32 bits little-endian, and then the entries: the editions seen (one byte each), the syndromes (8
-// bytes), the addresses (FAR and HPFAR, 8 bytes each) and the injections (two bytes: its own, and its domain). Entries are carried and not judged,
-// but for a domain's size.
+// bytes), the addresses (FAR and HPFAR, 8 bytes each) and the injections (two bytes: its own, and its domain). Entries are carried and not
+// judged, but for a domain's size.
 ghost use Rattle.log.specs.Answer.{Reading};
 
 mod answer;

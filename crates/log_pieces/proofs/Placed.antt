@@ -77,7 +77,8 @@ module _ (seen : ℕ) (e : Entries) (agree : length (e .syndromes) ≡ length (e
         ∙ zip-at (trapPiece seen) (e .syndromes) (e .addresses) j 0 nowhere agree within)
         ∙ after-editions i (rw first at h))
 
-    pub injection-piece : n ≤ i - m → i - m - n < countIn e 3 → injectionPiece (getD (e .injections) (i - m - n) 0) ≡ getD (entryPieces seen e) i []
+    pub injection-piece : n ≤ i - m → i - m - n < countIn e 3
+        → injectionPiece (getD (e .injections) (i - m - n) 0) ≡ getD (entryPieces seen e) i []
     injection-piece k l =
         let within : i - countIn e 0 - countIn e 1 < countIn e 3 = rw (first, second) at l in
         rw (first, second)

@@ -27,7 +27,8 @@ short-zip f h (a ∷ l) [] i = omega arith
 short-zip f h (a ∷ l) (b ∷ m) zero = h a b
 short-zip f h (a ∷ l) (b ∷ m) (suc i) = short-zip f h l m i
 
-short-both : (l m : List (List ℕ)) → ((i : ℕ) → Short (getD l i [])) → ((i : ℕ) → Short (getD m i [])) → (i : ℕ) → Short (getD (l ++ m) i [])
+short-both : (l m : List (List ℕ)) → ((i : ℕ) → Short (getD l i [])) → ((i : ℕ) → Short (getD m i [])) → (i : ℕ)
+    → Short (getD (l ++ m) i [])
 short-both [] m h k i = k i
 short-both (a ∷ l) m h k zero = h zero
 short-both (a ∷ l) m h k (suc i) = short-both l m (λ j. h (suc j)) k i

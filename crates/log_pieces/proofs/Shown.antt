@@ -78,7 +78,8 @@ module _ (s : List ℕ) where
   counted (suc (suc (suc (suc n)))) h = absurd (omega arith)
 
   -- the section that the reader finds has the count of what is shown
-  section-looked : (n : ℕ) → n < 4 → Taken → lookIn s n 0 .section ≡ Section.Whole (countIn (shown s) n) (endOf (getD sizes n 0) (restAfter s n))
+  section-looked : (n : ℕ) → n < 4 → Taken → lookIn s n 0 .section
+      ≡ Section.Whole (countIn (shown s) n) (endOf (getD sizes n 0) (restAfter s n))
   section-looked n h z =
       rw (shown-taken z, counted n h) (go (decLt 0 (countAfter s n)))
     where

@@ -1,5 +1,5 @@
--- The text of a log: how the log was read; and of a log that was accepted the editions seen, in the log's order, each trap with its registers and
--- what each known edition among those seen makes of it, and the injections.
+-- The text of a log: how the log was read; and of a log that was accepted the editions seen, in the log's order, each trap with its
+-- registers and what each known edition among those seen makes of it, and the injections.
 use Prim.Native.Nat.{ℕ, zero, suc}
 use mathlib.Core.Bool.{cond}
 use mathlib.Core.List.{List, [], _∷_, _++_, map, zipWith, flatten}

@@ -1,5 +1,6 @@
-// The text of a log in pieces, each appended to a buffer as `text::append` does: how the log was read, and of a log that was accepted the line of
-// each edition seen, the lines of each trap and the line of each injection. All pieces together may be many times as long as the log.
+// The text of a log in pieces, each appended to a buffer as `text::append` does: how the log was read, and of a log that was accepted the
+// line of each edition seen, the lines of each trap and the line of each injection. All pieces together may be many times as long as the
+// log.
 ghost use Prim.Native.Nat.{_<_};
 ghost use mathlib.Core.Path.{_≡_};
 ghost use mathlib.Core.List.{[]};

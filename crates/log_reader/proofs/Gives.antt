@@ -1,5 +1,5 @@
--- What the reader gives of an accepted log: moved past n sections it stands where section n + 1 starts, and gives its count, and its entry i or none.
--- Assumes nothing.
+-- What the reader gives of an accepted log: moved past n sections it stands where section n + 1 starts, and gives its count, and its entry
+-- i or none. Assumes nothing.
 use mathlib.Core.Path.{_≡_, ap, _∙_}
 use mathlib.Core.List.{List}
 use Prim.Native.Nat.{ℕ, _+_, _≤_, _<_}
@@ -25,7 +25,11 @@ module _ (s : List ℕ) {gone : ℕ} (e : readOf s ≡ Accepted gone) where
   stands-there n i h = ap (λ (p : Place). lookAt s (p .passed) (p .at) i) (reader-stands n (omega arith))
 
   pub reader-gives : (n i : ℕ) → n < 4 → i < countAfter s n
-      → lookIn s n i ≡ record { section = Section.Whole (countAfter s n) (endOf (getD sizes n 0) (restAfter s n)); entry = entryGiven (entriesOf s) n i }
+      → lookIn s n i ≡ record {
+        section = Section.Whole (countAfter s n) (endOf (getD sizes n 0) (restAfter s n));
+        entry = entryGiven
+            (entriesOf s) n i;
+      }
   reader-gives n i h k = stands-there n i h ∙ entry-found s e n i h k
 
   pub reader-has-none : (n i : ℕ) → n < 4 → countAfter s n ≤ i

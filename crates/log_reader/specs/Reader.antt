@@ -1,4 +1,5 @@
--- Request C-14, "The reader holds the lent log and its place; it moves over it": what a reader gives that was opened and moved past n sections.
+-- Request C-14, "The reader holds the lent log and its place; it moves over it": what a reader gives that was opened and moved past n
+-- sections.
 use Prim.Native.Nat.{ℕ}
 use mathlib.Core.List.{List}
 use Rattle.log.specs.Look.{skipFrom, lookAt}

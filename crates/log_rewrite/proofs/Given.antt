@@ -1,5 +1,5 @@
--- Of a log that is taken: its sections' counts, the bytes of its editions, the words of its traps and its injections, as the reader gives them.
--- Assumes nothing.
+-- Of a log that is taken: its sections' counts, the bytes of its editions, the words of its traps and its injections, as the reader gives
+-- them. Assumes nothing.
 use mathlib.Core.Path.{_≡_, refl, sym, ap, _∙_}
 use mathlib.Core.Bool.{Bool, true, false}
 use mathlib.Core.List.{List, [], _∷_}
@@ -12,7 +12,8 @@ use lib.ListN.{length, take, drop, getD, set, length-drop}
 use lib.Seq.{drop-drop, ext-getD, getD-take, getD-set-same, getD-set-other, length-take-le}
 use Rattle.log.specs.Number.{number}
 use Rattle.log.specs.Section.{injectionSize, sizes, endOf, restAfter, countAfter}
-use Rattle.log.specs.Log.{Address, nowhere, byteIn, wordIn as wordAt, pairIn, injectionIn, injectionByte, domainOf, entriesIn, entriesOf, bodyAfter}
+use Rattle.log.specs.Log.{Address, nowhere, byteIn, wordIn as wordAt, pairIn, injectionIn, injectionByte, domainOf, entriesIn, entriesOf}
+use Rattle.log.specs.Log.{bodyAfter}
 use Rattle.log.specs.Answer.{numberOf, readOf}
 use Rattle.log.specs.Look.{sectionAt, startAfter}
 use Rattle.log.specs.declared.answer.Read.{Read}
@@ -128,7 +129,8 @@ module _ (s : List ℕ) (t : Taken s) where
     fars-given holds =
         let addresses = entriesOf s .addresses in
         ap (λ (n : ℕ). take n out) agree
-        ∙ words-given 2 (lit< tt) (λ e. wordIn e false) (farsOf addresses) (fars-length addresses ∙ entries-count 16 pairIn (countAfter s 2) (bodyAfter s 2))
+        ∙ words-given 2 (lit< tt) (λ e. wordIn e false) (farsOf addresses)
+        (fars-length addresses ∙ entries-count 16 pairIn (countAfter s 2) (bodyAfter s 2))
         (λ i below. ap (λ (l : Look). wordIn (l .entry) false) (reader-gives s taken 2 i (lit< tt) below) ∙ sym (fars-at addresses i))
         out (omega (arith, agree)) holds
 
@@ -138,7 +140,8 @@ module _ (s : List ℕ) (t : Taken s) where
     hpfars-given holds =
         let addresses = entriesOf s .addresses in
         ap (λ (n : ℕ). take n out) agree
-        ∙ words-given 2 (lit< tt) (λ e. wordIn e true) (hpfarsOf addresses) (hpfars-length addresses ∙ entries-count 16 pairIn (countAfter s 2) (bodyAfter s 2))
+        ∙ words-given 2 (lit< tt) (λ e. wordIn e true) (hpfarsOf addresses)
+        (hpfars-length addresses ∙ entries-count 16 pairIn (countAfter s 2) (bodyAfter s 2))
         (λ i below. ap (λ (l : Look). wordIn (l .entry) true) (reader-gives s taken 2 i (lit< tt) below) ∙ sym (hpfars-at addresses i))
         out (omega (arith, agree)) holds
 
@@ -151,7 +154,8 @@ module _ (s : List ℕ) (t : Taken s) where
   unfolding entriesOf
   injections-given =
       words-given 3 (lit< tt) halfIn (entriesOf s .injections) (entries-count injectionSize injectionIn (countAfter s 3) (bodyAfter s 3))
-      (λ i below. ap (λ (l : Look). halfIn (l .entry)) (reader-gives s taken 3 i (lit< tt) below) ∙ halves (getD (entriesOf s .injections) i 0))
+      (λ i below. ap (λ (l : Look). halfIn (l .entry)) (reader-gives s taken 3 i (lit< tt) below)
+      ∙ halves (getD (entriesOf s .injections) i 0))
 
   -- the slices that the writer is called with are the lists of the log's entries
   module _ (n m : ℕ) (count : n ≡ countAfter s 1) (last : m ≡ countAfter s 3) (e i x y z : List ℕ)
@@ -164,7 +168,8 @@ module _ (s : List ℕ) (t : Taken s) where
     first-words out = ap (λ (k : ℕ). take k out) (sub-zero n ∙ count)
 
     pub lists-given : _≡_ {A = Lists}
-        record { editions = e; syndromes = take (n - 0) x; fars = take (n - 0) y; hpfars = take (n - 0) z; injections = take (m - 0) i } (listsOf (entriesOf s))
+        record { editions = e; syndromes = take (n - 0) x; fars = take (n - 0) y; hpfars = take (n - 0) z; injections = take (m - 0) i }
+        (listsOf (entriesOf s))
     unfolding entriesOf
     lists-given =
         let p = first-words x ∙ syndromes-given x (omega (arith, few-traps)) syndromes in

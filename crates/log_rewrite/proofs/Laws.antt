@@ -23,7 +23,8 @@ use Rattle.log_writer.specs.Write.{writtenOf, bufferAfter, Writing}
 use Rattle.log_writer.specs.declared.answer.Written.the-variants.{Log, NoRoom}
 use Rattle.log_writer.specs.declared.answer.Written as W
 use Rattle.log_writer.proofs.Again.{same-bytes, written-again, no-room-again}
-use Rattle.log_rewrite.specs.Rewrite.{Taken, numberOf, sectionOf, lengthOf, rewriteTests, rewriteNumbers, rewrittenOf, bufferAgain, Rewriting}
+use Rattle.log_rewrite.specs.Rewrite.{Taken, numberOf, sectionOf, lengthOf, rewriteTests, rewriteNumbers, rewrittenOf, bufferAgain}
+use Rattle.log_rewrite.specs.Rewrite.{Rewriting}
 use Rattle.log_rewrite.specs.declared.Rewritten.{Rewritten}
 use Rattle.log_rewrite.specs.declared.Rewritten.the-variants.{Unread, Written}
 use Rattle.log_rewrite.proofs.Given.{taken}
@@ -66,7 +67,8 @@ module _ (s : List ℕ) (room : ℕ) where
   by-tests =
       let P : Read → Type 0 = λ a. numberRead a ≡ 0 → ⊥ in
       first-failing P Unread (readTests s)
-      (each-refusal P s (λ z. absurd (omega arith)) (λ n p q z. absurd (omega arith)) (λ z. absurd (omega arith)) (λ z. absurd (omega arith))
+      (each-refusal P s (λ z. absurd (omega arith)) (λ n p q z. absurd (omega arith)) (λ z. absurd (omega arith))
+      (λ z. absurd (omega arith))
       (λ z. absurd (omega arith)))
 
   -- the reader's answer, where a test fails
@@ -76,7 +78,8 @@ module _ (s : List ℕ) (room : ℕ) where
 
   accepts : AllPass (readTests s) → numberRead (readOf s) ≡ 0
   unfolding readOf
-  accepts p = ap numberOf (decide-relabel Unread (readTests s) (Accepted (goneThrough s)) ∙ all-pass-relabel Unread (readTests s) (Unread (Accepted (goneThrough s))) p)
+  accepts p = ap numberOf (decide-relabel Unread (readTests s) (Accepted (goneThrough s))
+      ∙ all-pass-relabel Unread (readTests s) (Unread (Accepted (goneThrough s))) p)
 
   pub refused-again : (numberRead (readOf s) ≡ 0 → ⊥) → Unread (readOf s) ≡ rewrittenOf s room
   unfolding rewrittenOf
@@ -88,7 +91,8 @@ module _ (s : List ℕ) (room : ℕ) where
   pub taken-again : Taken s → decide fits last ≡ rewrittenOf s room
   unfolding rewrittenOf
   taken-again t =
-      ⊎-elim (λ p. sym (decide-append (relabel Unread (readTests s)) fits last ∙ all-pass-relabel Unread (readTests s) (decide fits last) p))
+      ⊎-elim (λ p. sym (decide-append (relabel Unread (readTests s)) fits last
+      ∙ all-pass-relabel Unread (readTests s) (decide fits last) p))
       (λ f. absurd (f .1 (sym (ap numberOf (refuses f)) ∙ t)))
       by-tests
 
@@ -114,13 +118,15 @@ module _ (s before after : List ℕ) (a : Rewritten) (r : Rewriting s before aft
   pub same-bytes-again : Taken s → length s ≤ length before → after ≡ s ++ drop (length s) before
   same-bytes-again t h =
       let room = le-leb (length s) (length before) h in
-      let e = r .answer ∙ sym (taken-again s (length before) t) ∙ ap (λ (x : Bool). cond x (Written (Log (length s))) (Written NoRoom)) room in
+      let e = r .answer ∙ sym (taken-again s (length before) t)
+      ∙ ap (λ (x : Bool). cond x (Written (Log (length s))) (Written NoRoom)) room in
       r .buffer ∙ ap (λ (x : Rewritten). bufferAgain x s before) e
 
   pub no-room-untouched : Taken s → length before < length s → after ≡ before
   no-room-untouched t h =
       let room = lt-leb (length s) (length before) h in
-      let e = r .answer ∙ sym (taken-again s (length before) t) ∙ ap (λ (x : Bool). cond x (Written (Log (length s))) (Written NoRoom)) room in
+      let e = r .answer ∙ sym (taken-again s (length before) t)
+      ∙ ap (λ (x : Bool). cond x (Written (Log (length s))) (Written NoRoom)) room in
       r .buffer ∙ ap (λ (x : Rewritten). bufferAgain x s before) e
 
   pub refused-untouched : (Taken s → ⊥) → after ≡ before

@@ -1,5 +1,5 @@
--- Request C-14, "Any log so accepted, written again, gives the same bytes", beside running code: what reading a log and writing its entries into a
--- buffer answers, and the buffer after it.
+-- Request C-14, "Any log so accepted, written again, gives the same bytes", beside running code: what reading a log and writing its entries
+-- into a buffer answers, and the buffer after it.
 use Prim.Native.Nat.{ℕ}
 use mathlib.Core.Path.{_≡_}
 use mathlib.Core.Bool.{cond}
@@ -49,8 +49,8 @@ abbrev pub bufferAgain : Rewritten → List ℕ → List ℕ → List ℕ
 bufferAgain (Unread a) s before = before
 bufferAgain (Written a) s before = bufferAfter a s before
 
--- THE PROMISE of writing a log again, of the buffer before it and after it: the answer; its number and its section, by the first test that fails; the
--- log's length, 0 on a refusal; and the buffer
+-- THE PROMISE of writing a log again, of the buffer before it and after it: the answer; its number and its section, by the first test that
+-- fails; the log's length, 0 on a refusal; and the buffer
 pub record Rewriting (s before after : List ℕ) (a : Rewritten) : Type 0 where
   pub answer : a ≡ rewrittenOf s (length before)
   pub number : numberOf a ≡ decide (rewriteNumbers s (length before)) 0

@@ -49,8 +49,8 @@ fn written(log: &[u8], out: &mut [u8]) -> Written
     )
 }
 
-// Reads a log and writes its entries into a buffer. The same bytes stand at the buffer's front where the log is accepted and has room there; else the
-// buffer is as it was.
+// Reads a log and writes its entries into a buffer. The same bytes stand at the buffer's front where the log is accepted and has room
+// there; else the buffer is as it was.
 pub fn rewrite(log: &[u8], out: &mut [u8]) -> Rewritten
     ensures { λ a. ⌜ Rewriting (now (log .entry)) (now (out .entry)) (now (out .exit)) a ⌝ }
 {

@@ -2,7 +2,8 @@
 ghost use mathlib.Core.List.{_++_};
 ghost use Rattle.text.specs.Ascii.{ascii};
 ghost use Rattle.text.specs.Append.{Appends};
-ghost use Rattle.log_text.specs.Lines.{decimalField, hexField, refusedText, readText, editionText, injectionText, entryText, wordsText};
+ghost use Rattle.log_text.specs.Lines.{decimalField, hexField, refusedText, readText, editionText, injectionText, entryText};
+ghost use Rattle.log_text.specs.Lines.{wordsText};
 use address::Far;
 use address::Hpfar;
 use log::Entry;

@@ -1,5 +1,5 @@
--- The laws of requests C-14 and C-21 on reading and writing: an accepted log, its entries written again, gives the same bytes; and what was written is
--- accepted with the same entries.
+-- The laws of requests C-14 and C-21 on reading and writing: an accepted log, its entries written again, gives the same bytes; and what was
+-- written is accepted with the same entries.
 -- Assumes nothing.
 use mathlib.Core.Path.{_≡_, refl, sym, ap, _∙_}
 use mathlib.Core.Bool.{true}
@@ -16,7 +16,8 @@ use Rattle.log.specs.Answer.{readOf}
 use Rattle.log.specs.declared.answer.Read.the-variants.{Accepted}
 use Rattle.log.proofs.Codec.{Each}
 use Rattle.log.proofs.Domains.{domains-fit-exactly}
-use Rattle.log.proofs.RoundTrip.{Fitting, PairFits, Writable, accepts, log-length, log-again, log-accepted, log-entries, entries-agree, entries-fit}
+use Rattle.log.proofs.RoundTrip.{Fitting, PairFits, Writable, accepts, log-length, log-again, log-accepted, log-entries, entries-agree}
+use Rattle.log.proofs.RoundTrip.{entries-fit}
 use Rattle.log_writer.specs.Lists.{Lists, paired, entriesFrom, farsOf, hpfarsOf, listsOf}
 use Rattle.log_writer.specs.Write.{numberOf, lengthIn, lengthBy, writtenOf, bufferAfter}
 use Rattle.log_writer.specs.declared.answer.Written.{Written}
@@ -45,7 +46,13 @@ module _ (s : List ℕ) (b : Bytes s) {gone : ℕ} (e : readOf s ≡ Accepted go
 
   pub same-bytes : logOf (entriesFrom (listsOf own)) ≡ s
   same-bytes =
-      ap (λ (x : List Address). logOf record { editions = own .editions; syndromes = own .syndromes; addresses = x; injections = own .injections })
+      ap (λ (x : List Address). logOf record {
+        editions = own .editions;
+        syndromes = own .syndromes;
+        addresses = x;
+        injections
+            = own .injections;
+      })
       (paired-again (own .addresses))
       ∙ log-again s b e
 
@@ -103,7 +110,8 @@ module _ (l : Lists) (fits : Fits l) (before : List ℕ) {n : ℕ} (w : writtenO
   fit : domainsFit (l .injections) ≡ true
   fit = domains-fit-exactly (l .injections) .1 (zero-exactly l (length before) .0 (ap numberOf w) .2)
 
-  tests : (lengthBy l ≤ 65536) × (length (l .syndromes) ≡ length (l .fars)) × (length (l .syndromes) ≡ length (l .hpfars)) × (n ≡ lengthBy l)
+  tests : (lengthBy l ≤ 65536) × (length (l .syndromes) ≡ length (l .fars)) × (length (l .syndromes) ≡ length (l .hpfars))
+      × (n ≡ lengthBy l)
   tests =
       let t = zero-exactly l (length before) .0 (ap numberOf w) in
       let same = has-room l (length before) (t .0) (t .1 .0) (t .1 .1) fit (t .3) in

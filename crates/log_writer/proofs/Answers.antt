@@ -73,7 +73,12 @@ module _ (l : Lists) (room : ℕ) where
   -- 20 exactly when a domain is above 15, after 16 and 15
   pub twenty-exactly : (numberOf (writtenOf l room) ≡ 20) ↔ ((lengthBy l ≤ 65536) × Agree l × (DomainsFit l → ⊥))
   twenty-exactly = (
-    λ e. let f = write-exactly 20 .0 e in (leb-true (lengthBy l) 65536 (f .0), true-agree l (f .1 .0), λ p. true≢false (sym (fit-true l p) ∙ f .1 .1)),
+    λ e. let f = write-exactly 20 .0 e in (
+      leb-true (lengthBy l) 65536 (f .0),
+      true-agree l (f .1 .0),
+      λ p. true≢false
+          (sym (fit-true l p) ∙ f .1 .1),
+    ),
     λ h. write-exactly 20 .1 (
       le-leb (lengthBy l) 65536 (h .0),
       (agree-true l (h .1), not-true-false (domainsFit (l .injections)) (λ t. h .2 (true-fit l t))),
@@ -89,7 +94,10 @@ module _ (l : Lists) (room : ℕ) where
       true-fit l (f .1 .1 .0),
       leb-false (lengthBy l) room (f .1 .1 .1),
     ),
-    λ h. write-exactly 17 .1 (le-leb (lengthBy l) 65536 (h .0), (agree-true l (h .1), (fit-true l (h .2), lt-leb (lengthBy l) room (h .3)))),
+    λ h. write-exactly 17 .1 (
+      le-leb (lengthBy l) 65536 (h .0),
+      (agree-true l (h .1), (fit-true l (h .2), lt-leb (lengthBy l) room (h .3))),
+    ),
   )
 
   pub zero-exactly : (numberOf (writtenOf l room) ≡ 0) ↔ ((lengthBy l ≤ 65536) × Agree l × DomainsFit l × (lengthBy l ≤ room))
@@ -100,7 +108,10 @@ module _ (l : Lists) (room : ℕ) where
       true-fit l (f .1 .1 .0),
       leb-true (lengthBy l) room (f .1 .1 .1 .0),
     ),
-    λ h. write-exactly 0 .1 (le-leb (lengthBy l) 65536 (h .0), (agree-true l (h .1), (fit-true l (h .2), (le-leb (lengthBy l) room (h .3), refl)))),
+    λ h. write-exactly 0 .1 (
+      le-leb (lengthBy l) 65536 (h .0),
+      (agree-true l (h .1), (fit-true l (h .2), (le-leb (lengthBy l) room (h .3), refl))),
+    ),
   )
 
 -- no other number comes: 0 with the log's length, 15 to 17 and 20 without

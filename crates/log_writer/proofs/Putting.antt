@@ -57,13 +57,16 @@ paired-at (far ∷ fars) (hpfar ∷ hpfars) zero e h = refl
 paired-at (far ∷ fars) (hpfar ∷ hpfars) (suc i) e h = paired-at fars hpfars i (omega arith) (omega arith)
 
 pub pair-stored : (fars hpfars out : List ℕ) (i end middle : ℕ) → length fars ≡ length hpfars → i < length fars → middle ≡ end + 8
-    → sets (sets out end (little 8 (getD fars i 0))) middle (little 8 (getD hpfars i 0)) ≡ sets out end (pair (getD (paired fars hpfars) i nowhere))
+    → sets (sets out end (little 8 (getD fars i 0))) middle (little 8 (getD hpfars i 0))
+    ≡ sets out end (pair (getD (paired fars hpfars) i nowhere))
 pair-stored fars hpfars out i end middle e h m =
     rw (paired-at fars hpfars i e h)
-    (sets-both (little 8 (getD fars i 0)) (little 8 (getD hpfars i 0)) out end middle (m ∙ ap (λ (k : ℕ). end + k) (sym (length-little 8 (getD fars i 0)))))
+    (sets-both (little 8 (getD fars i 0)) (little 8 (getD hpfars i 0)) out end middle
+    (m ∙ ap (λ (k : ℕ). end + k) (sym (length-little 8 (getD fars i 0)))))
 
 -- a section whose first i entries were put: what is left of them, put behind those, gives what all of them give
-module _ {A : Type 0} (bytes : A → List ℕ) (size : ℕ) (sized : (a : A) → length (bytes a) ≡ size) (entries : List A) (other : A) (out₀ : List ℕ) (end₀ : ℕ) where
+module _ {A : Type 0} (bytes : A → List ℕ) (size : ℕ) (sized : (a : A) → length (bytes a) ≡ size) (entries : List A) (other : A)
+    (out₀ : List ℕ) (end₀ : ℕ) where
   pub record Putting (out : List ℕ) (end i : ℕ) : Type 0 where
     pub within : i ≤ length entries
     pub same : length out ≡ length out₀
@@ -94,7 +97,9 @@ module _ {A : Type 0} (bytes : A → List ℕ) (size : ℕ) (sized : (a : A) →
       (rw past at (p .ends), rw (past, drop-length) at (p .stored))
 
 -- behind the count
-pub section-put : (out out₀ out₁ body : List ℕ) (at end₀ n : ℕ) → out₀ ≡ sets out at (little 4 n) → end₀ ≡ at + 4 → out₁ ≡ sets out₀ end₀ body
+pub section-put : (out out₀ out₁ body : List ℕ) (at end₀ n : ℕ) → out₀ ≡ sets out at (little 4 n) → end₀ ≡ at + 4
+    → out₁ ≡ sets out₀ end₀ body
     → out₁ ≡ sets out at (little 4 n ++ body)
 section-put out out₀ out₁ body at end₀ n e p q =
-    q ∙ ap (λ (l : List ℕ). sets l end₀ body) e ∙ sets-both (little 4 n) body out at end₀ (p ∙ ap (λ (k : ℕ). at + k) (sym (length-little 4 n)))
+    q ∙ ap (λ (l : List ℕ). sets l end₀ body) e ∙ sets-both (little 4 n) body out at end₀
+    (p ∙ ap (λ (k : ℕ). at + k) (sym (length-little 4 n)))

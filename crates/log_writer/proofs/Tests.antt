@@ -95,7 +95,8 @@ pub short-by : (n all : ℕ) → n ≡ min all 65537 → n ≤ 65536 → n ≡ a
 short-by n all e h = omega arith
 
 -- four parts put one behind the other, and what lies past them
-four-parts : (a b c d out : List ℕ) (second third fourth end : ℕ) → second ≡ length a → third ≡ second + length b → fourth ≡ third + length c
+four-parts : (a b c d out : List ℕ) (second third fourth end : ℕ) → second ≡ length a → third ≡ second + length b
+    → fourth ≡ third + length c
     → end ≡ fourth + length d → end ≤ length out
     → sets (sets (sets (sets out 0 a) second b) third c) fourth d ≡ (a ++ (b ++ (c ++ d))) ++ drop end out
 four-parts a b c d out second third fourth end e₂ e₃ e₄ e h =
@@ -117,7 +118,8 @@ module _ (l : Lists) (out : List ℕ) (agree : length (l .fars) ≡ length (l .h
 
   pub sections-put : (second third fourth end : ℕ) → second ≡ 0 + 4 + length (l .editions) → third ≡ second + 4 + length (l .syndromes) * 8
       → fourth ≡ third + 4 + length (l .fars) * 16 → end ≡ fourth + 4 + length (l .injections) * 2 → end ≤ length out
-      → sets (sets (sets (sets out 0 (sectionBytes byte (l .editions))) second (sectionBytes word (l .syndromes))) third addresses) fourth (sectionBytes injection (l .injections))
+      → sets (sets (sets (sets out 0 (sectionBytes byte (l .editions))) second (sectionBytes word (l .syndromes))) third addresses) fourth
+      (sectionBytes injection (l .injections))
       ≡ logOf (entriesFrom l) ++ drop end out
   unfolding logOf
   sections-put second third fourth end e₂ e₃ e₄ e h =

@@ -1,5 +1,5 @@
--- Request C-14: what a log writer is given, a list for each kind of word, and the entries that the lists make. An injection is the number of its two
--- bytes (C-21).
+-- Request C-14: what a log writer is given, a list for each kind of word, and the entries that the lists make. An injection is the number
+-- of its two bytes (C-21).
 use Prim.Native.Nat.{ℕ}
 use mathlib.Core.List.{List, [], _∷_}
 use Rattle.log.specs.Log.{Address, Entries}
@@ -11,8 +11,8 @@ pub record Lists : Type 0 where
   pub hpfars : List ℕ
   pub injections : List ℕ
 
--- The addresses that have both of their words. A FAR or HPFAR without the other is left out here, and is not lost without a sign: it counts in the
--- length (`lengthBy`), and such lists are refused 15 (`agreeing`).
+-- The addresses that have both of their words. A FAR or HPFAR without the other is left out here, and is not lost without a sign: it counts
+-- in the length (`lengthBy`), and such lists are refused 15 (`agreeing`).
 abbrev pub paired : List ℕ → List ℕ → List Address
 paired [] hpfars = []
 paired (far ∷ fars) [] = []

@@ -37,8 +37,8 @@ lengthBy l =
 abbrev pub agreeing : Lists → Bool
 agreeing l = eqb (length (l .syndromes)) (length (l .fars)) && eqb (length (l .syndromes)) (length (l .hpfars))
 
--- THE TESTS in their order, each with what comes where it fails: at most 65,536 bytes; equal counts; each domain at most 15; room for the length by
--- the counts
+-- THE TESTS in their order, each with what comes where it fails: at most 65,536 bytes; equal counts; each domain at most 15; room for the
+-- length by the counts
 module _ {A : Type 0} (tooLong unequal wideDomain noRoom : A) where
   abbrev pub testsOf : Lists → ℕ → List (Test A)
   testsOf l room =
@@ -67,8 +67,8 @@ bufferAfter TooLong log before = before
 bufferAfter NoRoom log before = before
 bufferAfter WideDomain log before = before
 
--- THE PROMISE of writing, of the buffer before it and after it: the answer; its number, by the first test that fails; the length by the counts, 0 on
--- a refusal; and the buffer
+-- THE PROMISE of writing, of the buffer before it and after it: the answer; its number, by the first test that fails; the length by the
+-- counts, 0 on a refusal; and the buffer
 pub record Writing (l : Lists) (before after : List ℕ) (a : Written) : Type 0 where
   pub answer : a ≡ writtenOf l (length before)
   pub number : numberOf a ≡ decide (writeNumbers l (length before)) 0

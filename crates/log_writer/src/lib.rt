@@ -18,8 +18,8 @@ pub struct Fars<'a>(pub &'a [u64]);
 
 pub struct Hpfars<'a>(pub &'a [u64]);
 
-// Writes a log. An injection is a number of two bytes: the lower is its own, the upper its domain. A refusal leaves the whole buffer as it was, and a
-// log leaves what lies past it.
+// Writes a log. An injection is a number of two bytes: the lower is its own, the upper its domain. A refusal leaves the whole buffer as it
+// was, and a log leaves what lies past it.
 pub fn write<'a, 'b>(
     editions: &'a [u8],
     syndromes: Syndromes<'a>,

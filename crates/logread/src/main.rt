@@ -8,8 +8,8 @@ ghost use Rattle.log_pieces.specs.Text.{shown, seenMask, piecesOf};
 use libc::STDIN_FILENO;
 use libc::STDOUT_FILENO;
 
-// Reads the input into a buffer. One byte more than a log may have is enough to refuse an input of any length, and no more is read. No contract
-// can say which bytes were read.
+// Reads the input into a buffer. One byte more than a log may have is enough to refuse an input of any length, and no more is read. No
+// contract can say which bytes were read.
 fn read_log(space: &mut [u8]) -> usize
     requires { ⌜ 65536 < length (now space) ⌝ }
     ensures { λ n. ⌜ Counts n (now (space .exit)) ⌝ }

@@ -1,5 +1,6 @@
--- BACK TO WHERE IT WAS: for every state and every injection or delivery taken in it, the return right after it with its correction answers 0 and gives the first
--- state again, but for the saved status and link register of the mode entered and the fault registers written, each as the injection left it.
+-- BACK TO WHERE IT WAS: for every state and every injection or delivery taken in it, the return right after it with its correction answers
+-- 0 and gives the first state again, but for the saved status and link register of the mode entered and the fault registers written, each
+-- as the injection left it.
 use mathlib.Core.Path.{_≡_, sym, ap, ap₂, _∙_, subst}
 use mathlib.Core.List.{[], _∷_}
 use Rattle.signed.specs.declared.Signed.{Signed}
@@ -43,7 +44,8 @@ returned-right-after s e typed t =
 pub first-state-again : (s : Guest) (e : Entry) → Typed s → TakenIn s e
     → SameBut (exceptionOf e .row .mode ∷ []) (exceptionOf e .writes) (returned (after s e) (correctionOf s e) .state) s
 first-state-again s e typed t =
-    subst (λ (r : Resumed). SameBut (exceptionOf e .row .mode ∷ []) (exceptionOf e .writes) (r .state) s) (sym (returned-right-after s e typed t))
+    subst (λ (r : Resumed). SameBut (exceptionOf e .row .mode ∷ []) (exceptionOf e .writes) (r .state) s)
+    (sym (returned-right-after s e typed t))
     (undone-same s (exceptionOf e .row) (exceptionOf e .leaves s) (proper e .link) (exceptionOf e .writes) (proper e .faults s))
 
 -- ---- of the calls, as they promise

@@ -45,14 +45,17 @@ delivery-link Kind.Irq = refl
 two-set : (l : List ℕ) (j k v w : ℕ) → EqualBut (j ∷ k ∷ []) (set (set l j v) k w) l
 two-set l j k v w = equal-trans (j ∷ []) (k ∷ []) (one-set (set l j v) k w) (one-set l j v)
 
-injection-faults : (i : Injection) (old : FaultRegisters) (ttbcr : ℕ) → EqualBut (injectionWrites i) (faultWords (injection.faultsAfter i old ttbcr)) (faultWords old)
+injection-faults : (i : Injection) (old : FaultRegisters) (ttbcr : ℕ)
+    → EqualBut (injectionWrites i) (faultWords (injection.faultsAfter i old ttbcr)) (faultWords old)
 injection-faults UndefinedAt old ttbcr = equal-refl [] (faultWords old)
 injection-faults UndefinedAfter old ttbcr = equal-refl [] (faultWords old)
 injection-faults SupervisorCall old ttbcr = equal-refl [] (faultWords old)
 injection-faults (PrefetchAbort f) old ttbcr = two-set (faultWords old) 1 3 (codeIn (ifsrWord (f .fault) ttbcr)) (f .address)
-injection-faults (DataAbort a) old ttbcr = two-set (faultWords old) 0 2 (codeIn (dfsrWord (a .fault) (a .write) (a .domain) ttbcr)) (a .address)
+injection-faults (DataAbort a) old ttbcr = two-set (faultWords old) 0 2 (codeIn (dfsrWord (a .fault) (a .write) (a .domain) ttbcr))
+    (a .address)
 
-delivery-faults : (k : Kind) (old : FaultRegisters) (ttbcr : ℕ) → EqualBut (deliveryWrites k) (faultWords (delivery.faultsAfter k old ttbcr)) (faultWords old)
+delivery-faults : (k : Kind) (old : FaultRegisters) (ttbcr : ℕ)
+    → EqualBut (deliveryWrites k) (faultWords (delivery.faultsAfter k old ttbcr)) (faultWords old)
 delivery-faults Kind.Abort old ttbcr = one-set (faultWords old) 0 (asynchronousDfsr 0 ttbcr)
 delivery-faults Kind.Fiq old ttbcr = equal-refl [] (faultWords old)
 delivery-faults Kind.Irq old ttbcr = equal-refl [] (faultWords old)

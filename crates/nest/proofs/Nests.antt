@@ -1,6 +1,6 @@
--- A WHOLE NEST: any list of injections and deliveries, each taken in the state that the last one left, no two entering the same mode, then returned in turn, the
--- last first: each return answers 0, and the first state comes again, but for the saved status and link registers of the modes entered and the fault registers
--- written. The law over rows (resume, `nest-same`), at the rows of the two tables.
+-- A WHOLE NEST: any list of injections and deliveries, each taken in the state that the last one left, no two entering the same mode, then
+-- returned in turn, the last first: each return answers 0, and the first state comes again, but for the saved status and link registers of
+-- the modes entered and the fault registers written. The law over rows (resume, `nest-same`), at the rows of the two tables.
 use mathlib.Core.Path.{_≡_, refl, sym, ap, ap₂, _∙_, subst}
 use mathlib.Core.Bool.{true}
 use mathlib.Core.List.{List, [], _∷_}
@@ -20,9 +20,11 @@ use Rattle.nest.proofs.Entries.{all-proper, taken-sound, taken-leaves, 
 
 -- the return of the first, over its row
 as-row : (s : Guest) (e : Entry) (es : List Entry) → TakenIn s e → nested (after s e) es ≡ rows.nested (after s e) (exceptions es)
-    → returned (nested (after s e) es) (correctionOf s e) ≡ returned (rows.nested (taken s (exceptionOf e)) (exceptions es)) (correctionAt s (exceptionOf e))
+    → returned (nested (after s e) es) (correctionOf s e)
+    ≡ returned (rows.nested (taken s (exceptionOf e)) (exceptions es)) (correctionAt s (exceptionOf e))
 as-row s e es t inner =
-    ap₂ (λ (g : Guest) (c : Signed). returned g c) (inner ∙ ap (λ (g : Guest). rows.nested g (exceptions es)) (taken-leaves s e t)) (same-correction s e)
+    ap₂ (λ (g : Guest) (c : Signed). returned g c) (inner ∙ ap (λ (g : Guest). rows.nested g (exceptions es)) (taken-leaves s e t))
+    (same-correction s e)
 
 as-rows : (es : List Entry) (s : Guest) → AllTaken s es → nested s es ≡ rows.nested s (exceptions es)
 as-rows [] s t = refl
@@ -39,8 +41,11 @@ pub nest-back : (es : List Entry) (s : Guest) → Typed s → AllTaken s es → 
     → AllReturn s es × SameBut (modesOf (exceptions es)) (writtenBy (exceptions es)) (nested s es) s
 nest-back [] s typed t d = (tt, same-refl [] [] s)
 nest-back (e ∷ es) s typed t d =
-    let law = nest-same (exceptions (e ∷ es)) s typed (taken-sound s e (t .0)) (all-proper (e ∷ es)) d in
-    (return-as-rows (e ∷ es) s t (law .0), subst (λ (g : Guest). SameBut (modesOf (exceptions (e ∷ es))) (writtenBy (exceptions (e ∷ es))) g s) (sym (as-rows (e ∷ es) s t)) (law .1))
+    let law = nest-same (exceptions (e ∷ es)) s typed (taken-sound s e (t .0)) (all-proper (e ∷ es)) d in (
+      return-as-rows (e ∷ es) s t (law .0),
+      subst (λ (g : Guest). SameBut (modesOf (exceptions (e ∷ es))) (writtenBy (exceptions (e ∷ es)))
+          g s) (sym (as-rows (e ∷ es) s t)) (law .1),
+    )
 
 -- EACH AS IT WAS LEFT by the last that wrote it: no return changes anything but status word and PC
 pub nest-as-left : (es : List Entry) (s : Guest) → OnlyMoved (nested s es) (lastLeft s es)

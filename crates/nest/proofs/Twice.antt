@@ -1,5 +1,6 @@
--- WHY NO TWO MAY ENTER THE SAME MODE: a second injection overwrites what the first one saved. Document 01's starred case, an undefined instruction at 0x8000 in
--- User mode, and another one at the first instruction of its handler: both are taken, both returns answer 0, and the guest is left in the handler.
+-- WHY NO TWO MAY ENTER THE SAME MODE: a second injection overwrites what the first one saved. Document 01's starred case, an undefined
+-- instruction at 0x8000 in User mode, and another one at the first instruction of its handler: both are taken, both returns answer 0, and
+-- the guest is left in the handler.
 use mathlib.Core.Path.{_≡_, refl, sym, _∙_}
 use mathlib.Core.Bool.{false, true≢false}
 use mathlib.Core.List.{List, [], _∷_}

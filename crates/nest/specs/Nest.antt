@@ -1,4 +1,5 @@
--- A nest of injections and deliveries (02, C-22): "Repeat it for a whole nest of injections, each returned in turn, as long as no two enter the same mode".
+-- A nest of injections and deliveries (02, C-22): "Repeat it for a whole nest of injections, each returned in turn, as long as no two enter
+-- the same mode".
 use mathlib.Core.Path.{_≡_}
 use mathlib.Core.List.{List, [], _∷_}
 use Rattle.exception.specs.declared.state.Guest.{Guest}

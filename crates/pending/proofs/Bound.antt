@@ -104,7 +104,11 @@ module _ {S : Type 0} (d : Delivery S) where
         → listOf three ≡ (i ∷ j ∷ k ∷ []) → listOf rest ≡ (j ∷ k ∷ [])
         → Run d Empty (raising i ∷ raising j ∷ raising k ∷ delivers i ∷ delivers j ∷ delivers k ∷ []) Empty
     unfolding raised
-    three-run i j k two three rest e f g h = (One i, refl, (two, e, (three, f, (rest, first, (One k, second, (Empty, open-step k [], refl))))))
+    three-run i j k two three rest e f g h = (
+      One i,
+      refl,
+      (two, e, (three, f, (rest, first, (One k, second, (Empty, open-step k [], refl))))),
+    )
       where
         first : stepTo (delivered i) (listOf rest) (d .injected s i) ≡ stepOf d (listOf three) s
         first =

@@ -85,5 +85,6 @@ module _ (mask : Kind → Bool) where
       let third = pick c (Two a after) Nothing in
       let second = pick b (Two a (not after)) third in (
         pick a (Two b after) second,
-        three-chosen a after refl refl (picked c (Two a after) Nothing) (picked b (Two a (not after)) third) (picked a (Two b after) second),
+        three-chosen a after refl refl (picked c (Two a after) Nothing) (picked b (Two a (not after)) third)
+            (picked a (Two b after) second),
       )

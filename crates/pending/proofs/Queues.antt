@@ -1,5 +1,5 @@
--- A queue's list has no kind twice, and a list is one queue's at most. With `reached` (Reached.antt) the values of `Queue` are exactly the sixteen
--- lists without repeats.
+-- A queue's list has no kind twice, and a list is one queue's at most. With `reached` (Reached.antt) the values of `Queue` are exactly the
+-- sixteen lists without repeats.
 -- Assumes nothing.
 use mathlib.Core.Path.{_≡_, refl, sym, ap, _∙_}
 use mathlib.Core.Bool.{Bool, true, false, _||_, or-false}

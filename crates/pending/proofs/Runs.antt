@@ -35,12 +35,13 @@ module _ {S : Type 0} (d : Delivery S) where
         rest .1 ∙ ap (λ (l : List Kind). lastFrom d l (callsOf made)) left,
       )
 
-  -- OVER RUNS: whatever calls were made, one after the other and with nothing waiting at the start, what came back from each is what the plain
-  -- queue answers to these calls, the state after each step included; and the queue that the last one left is the plain queue's
+  -- OVER RUNS: whatever calls were made, one after the other and with nothing waiting at the start, what came back from each is what the
+  -- plain queue answers to these calls, the state after each step included; and the queue that the last one left is the plain queue's
   pub runs : (q last : Queue) (made : List (Made S)) → listOf q ≡ [] → Run d q made last
       → (made ≡ runFrom d [] (callsOf made)) × (listOf last ≡ lastFrom d [] (callsOf made))
   runs q last made empty run =
-      subst (λ (l : List Kind). (made ≡ runFrom d l (callsOf made)) × (listOf last ≡ lastFrom d l (callsOf made))) empty (run-from q last made run)
+      subst (λ (l : List Kind). (made ≡ runFrom d l (callsOf made)) × (listOf last ≡ lastFrom d l (callsOf made))) empty
+      (run-from q last made run)
 
   -- NO WITHDRAWAL: a kind that waits before a call and not after it was delivered by that call
   pub no-withdrawal : (k : Kind) (q r : Queue) (m : Made S) → Promised d q m r → waits k (listOf q) ≡ true → waits k (listOf r) ≡ false

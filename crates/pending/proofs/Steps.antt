@@ -81,7 +81,8 @@ module _ {S : Type 0} (d : Delivery S) where
           ap (λ (b : Bool). b && not (d .mask s k)) t ∙ ap not (ap (d .mask s) (sym it) ∙ unmasked)
 
   -- the step that delivers a kind is taken, and its state is the one after that kind's injection
-  pub delivering-injects : (k : Kind) (l : List Kind) (s : S) → stepOf d l s .answer ≡ delivered k → (taken d s ≡ true) × (stepOf d l s .state ≡ d .injected s k)
+  pub delivering-injects : (k : Kind) (l : List Kind) (s : S) → stepOf d l s .answer ≡ delivered k
+      → (taken d s ≡ true) × (stepOf d l s .state ≡ d .injected s k)
   delivering-injects k l s a = by (ending l s)
     where
       by : Ending l s → (taken d s ≡ true) × (stepOf d l s .state ≡ d .injected s k)

@@ -67,8 +67,8 @@ module _ {S : Type 0} (d : Delivery S) where
   counted k (raising j ∷ made) = counted k made
   counted k (delivering s answer after ∷ made) = digit (counts k s) + counted k made
 
-  -- a run delivers a kind in a step before which fewer than n count for the kind: at the latest in the n-th that counts, since that step itself
-  -- counts (`delivering-counts`, proofs/Steps.antt)
+  -- a run delivers a kind in a step before which fewer than n count for the kind: at the latest in the n-th that counts, since that step
+  -- itself counts (`delivering-counts`, proofs/Steps.antt)
   pub record DeliveredBy (n : ℕ) (k : Kind) (made : List (Made S)) : Type 0 where
     pub before : List (Made S)
     pub state : S

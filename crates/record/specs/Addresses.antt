@@ -1,5 +1,5 @@
--- What a record tells of the two address registers (01, 'Addresses of an abort'; 02, C-20): an abort's FnV, S1PTW and code; classes 0x22 and 0x34 have a virtual
--- address, always known; every other class has none.
+-- What a record tells of the two address registers (01, 'Addresses of an abort'; 02, C-20): an abort's FnV, S1PTW and code; classes 0x22
+-- and 0x34 have a virtual address, always known; every other class has none.
 use Rattle.record.specs.Sort.{sortOf}
 use Rattle.record.specs.declared.kinds.Addresses.{Addresses}
 use Rattle.record.specs.declared.kinds.Record.{Record}

@@ -1,4 +1,5 @@
--- The exception classes of the build (01, 'What the build covers' and 'Layout of the word'; 02, C-20 and C-23), by the trap's origin and by kind of record.
+-- The exception classes of the build (01, 'What the build covers' and 'Layout of the word'; 02, C-20 and C-23), by the trap's origin and by
+-- kind of record.
 use Prim.Native.Nat.{ℕ}
 use mathlib.Core.Bool.{Bool, true, false, cond}
 use mathlib.Core.List.{List, [], _∷_}

@@ -1,5 +1,5 @@
--- What sort of exception a record tells of, as far as rules beyond its layout go by it: an abort with its fields; classes 0x22 and 0x34, a PC alignment fault and a
--- watchpoint, which have a virtual address; an SError interrupt with its fields; or a plain one.
+-- What sort of exception a record tells of, as far as rules beyond its layout go by it: an abort with its fields; classes 0x22 and 0x34, a
+-- PC alignment fault and a watchpoint, which have a virtual address; an SError interrupt with its fields; or a plain one.
 use mathlib.Core.Bool.{cond}
 use lib.Dec.{eqb}
 use Rattle.record.specs.declared.kinds.Record.{Record}

@@ -1,7 +1,9 @@
-// Which classes there are from each origin, and which each kind of record has. The kinds with several classes have them in both forms alike, but for the calls.
+// Which classes there are from each origin, and which each kind of record has. The kinds with several classes have them in both forms
+// alike, but for the calls.
 ghost use mathlib.Core.Path.{_≡_};
 ghost use Rattle.bits.specs.Among.{among};
-ghost use Rattle.record.specs.Class.{aarch32Classes, aarch64Classes, isClass, plainClasses, mcrClasses, mcrrClasses, callClasses, debugClasses, withoutIsv, headOf};
+ghost use Rattle.record.specs.Class.{aarch32Classes, aarch64Classes, isClass, plainClasses, mcrClasses, mcrrClasses, callClasses};
+ghost use Rattle.record.specs.Class.{debugClasses, withoutIsv, headOf};
 use super::kinds::Head;
 use super::kinds::Record;
 use super::origin::Origin;

@@ -107,7 +107,8 @@ pub struct DataAbort {
     pub code: u32,
 }
 
-// Classes 0x30 and 0x3A: a breakpoint or a vector catch. The fault code is that of a debug exception, here and in the two kinds below, and is no field.
+// Classes 0x30 and 0x3A: a breakpoint or a vector catch. The fault code is that of a debug exception, here and in the two kinds below, and
+// is no field.
 pub struct Debug {
     pub class: u32,
     pub il: bool,
@@ -166,8 +167,8 @@ pub enum Record {
     System(System),
 }
 
-// What is asked of every record before its fields: its class, whether its kind has that class, IL, and a data abort's ISV, which IL hangs on (a software step's is a field
-// like any other).
+// What is asked of every record before its fields: its class, whether its kind has that class, IL, and a data abort's ISV, which IL hangs
+// on (a software step's is a field like any other).
 pub struct Head {
     pub class: u32,
     pub own: bool,
@@ -175,8 +176,8 @@ pub struct Head {
     pub isv: bool,
 }
 
-// What sort of exception a record tells of, as far as rules beyond its layout go by it: a plain one; one that is no abort and has a virtual address, a PC
-// alignment fault or a watchpoint; an abort, with its fields; or an SError interrupt, with its fields.
+// What sort of exception a record tells of, as far as rules beyond its layout go by it: a plain one; one that is no abort and has a virtual
+// address, a PC alignment fault or a watchpoint; an abort, with its fields; or an SError interrupt, with its fields.
 pub enum Sort {
     Plain,
     Addressed,

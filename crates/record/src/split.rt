@@ -1,6 +1,7 @@
 // A word taken apart by the layout of its class. Nothing is judged here. The kinds without a register are the short form's too.
 ghost use mathlib.Core.Path.{_≡_};
-ghost use Rattle.record.specs.Split.{plainAt, wfxAt, mcrAt, mcrrAt, ldcAt, simdAt, callAt, smcAt, instructionAbortAt, dataAbortAt, debugAt, stepAt, watchpointAt, serrorAt, systemAt, recordOf, recordAt};
+ghost use Rattle.record.specs.Split.{plainAt, wfxAt, mcrAt, mcrrAt, ldcAt, simdAt, callAt, smcAt, instructionAbortAt, dataAbortAt};
+ghost use Rattle.record.specs.Split.{debugAt, stepAt, watchpointAt, serrorAt, systemAt, recordOf, recordAt};
 use super::kinds::Call;
 use super::kinds::DataAbort;
 use super::kinds::Debug;

@@ -16,7 +16,8 @@ use Rattle.resume.specs.declared.Answer.{Answer}
 use Rattle.resume.specs.declared.Answer.the-variants.{Returned, UnsoundStatus, NoSavedStatus, UnsoundSaved}
 use Rattle.resume.specs.declared.Resumed.{Resumed}
 use Rattle.resume.specs.Answer.{answerNumber}
-use Rattle.resume.specs.Return.{modeOf, banked, savedOf, restored, back, returnTests, returnNumbers, returnAnswer, resulting, returned}
+use Rattle.resume.specs.Return.{modeOf, banked, savedOf, restored, back, returnTests, returnNumbers, returnAnswer, resulting}
+use Rattle.resume.specs.Return.{returned}
 use Rattle.resume.specs.Same.{OnlyMoved}
 use Rattle.resume.specs.Promise.{Returning}
 

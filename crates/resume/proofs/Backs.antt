@@ -1,5 +1,6 @@
--- ONE EXCEPTION: the return right after it, with its correction, answers 0 and gives the first state again, but for the saved status and link register of the
--- mode entered and the fault registers written, each of which is as the exception left it. Over every row, so that injections and deliveries are one law.
+-- ONE EXCEPTION: the return right after it, with its correction, answers 0 and gives the first state again, but for the saved status and
+-- link register of the mode entered and the fault registers written, each of which is as the exception left it. Over every row, so that
+-- injections and deliveries are one law.
 use mathlib.Core.Path.{_≡_, refl, sym, ap, _∙_, subst}
 use mathlib.Core.Bool.{true}
 use mathlib.Core.List.{List, [], _∷_}
@@ -86,7 +87,8 @@ module _ (s : Guest) (row : Row) (faults : FaultRegisters) where
           ∙ link-held s row faults link-below
 
       -- the link less the correction is the first PC, wherever in its range that was
-      pc-back : differenceOf (registerIn (entered s row faults .regs) (linkRegister (modeOf (entered s row faults)))) (signed (correctionIn row (t32 (s .status))))
+      pc-back : differenceOf (registerIn (entered s row faults .regs) (linkRegister (modeOf (entered s row faults))))
+          (signed (correctionIn row (t32 (s .status))))
           ≡ s .pc
       pc-back =
           ap (λ (n : ℕ). differenceOf n (signed (correctionIn row (t32 (s .status))))) link-entered
@@ -104,14 +106,17 @@ module _ (s : Guest) (row : Row) (faults : FaultRegisters) where
           ∙ ap (λ (g : Guest). record { answer = Returned; state = g }) restored-back
 
     -- which is the first state, but for these
-    pub undone-same : (written : List ℕ) → EqualBut written (faultWords faults) (faultWords (s .faults)) → SameBut (row .mode ∷ []) written (undone s row faults) s
+    pub undone-same : (written : List ℕ) → EqualBut written (faultWords faults) (faultWords (s .faults))
+        → SameBut (row .mode ∷ []) written (undone s row faults) s
     undone-same written e =
         record {
-          regs = subst (λ (k : ℕ). EqualBut (k ∷ []) (undone s row faults .regs) (s .regs)) link (one-set (s .regs) (row .link) (linkFrom s row));
+          regs = subst (λ (k : ℕ). EqualBut (k ∷ []) (undone s row faults .regs) (s .regs)) link
+              (one-set (s .regs) (row .link) (linkFrom s row));
           pc = refl;
           status = refl;
           saved =
-              subst (λ (l : List ℕ). EqualBut (savedPlace (row .mode) ∷ []) l (savedWords (s .saved))) (sym (saved-set (row .mode) (s .saved) (s .status)))
+              subst (λ (l : List ℕ). EqualBut (savedPlace (row .mode) ∷ []) l (savedWords (s .saved)))
+              (sym (saved-set (row .mode) (s .saved) (s .status)))
               (one-set (savedWords (s .saved)) (savedPlace (row .mode)) (s .status));
           faults = e;
           sctlr = refl;

@@ -1,5 +1,6 @@
--- A NEST: any list of exceptions, each taken in the state that the last one left, no two entering the same mode, then returned in turn, the last first: each
--- return answers 0, and the first state comes again, but for the saved status and link registers of the modes entered and the fault registers written.
+-- A NEST: any list of exceptions, each taken in the state that the last one left, no two entering the same mode, then returned in turn, the
+-- last first: each return answers 0, and the first state comes again, but for the saved status and link registers of the modes entered and
+-- the fault registers written.
 use mathlib.Core.Path.{_≡_, refl, sym, ap, _∙_, subst}
 use mathlib.Core.Bool.{true, false, not}
 use mathlib.Core.List.{List, [], _∷_}
@@ -18,7 +19,8 @@ use Rattle.resume.specs.declared.Answer.the-variants.{Returned}
 use Rattle.resume.specs.declared.Resumed.{Resumed}
 use Rattle.resume.specs.Return.{returned}
 use Rattle.resume.specs.Same.{each, SameBut, OnlyMoved}
-use Rattle.resume.specs.Nest.{Exception, Proper, AllProper, taken, correctionAt, lastLeft, nested, AllReturn, modesOf, writtenBy, distinct, Typed}
+use Rattle.resume.specs.Nest.{Exception, Proper, AllProper, taken, correctionAt, lastLeft, nested, AllReturn, modesOf, writtenBy}
+use Rattle.resume.specs.Nest.{distinct, Typed}
 use Rattle.resume.proofs.Answers.{Passes, returns-so, only-moved}
 use Rattle.resume.proofs.Sames.{same-refl, same-trans, moved-trans, passes-same, return-same}
 use Rattle.resume.proofs.Backs.{mode-entered, passes-entered, back-again, undone-same}
@@ -49,7 +51,8 @@ module _ (s : Guest) (x : Exception) (xs : List Exception) (typed : Typed s) (ok
       (sym (ap (λ (r : Resumed). r .state) (back-again s (x .row) (x .leaves s) (proper .link) typed ok)))
       (undone-same s (x .row) (x .leaves s) (proper .link) (x .writes) (proper .faults s)))
 
-pub nest-same : (xs : List Exception) (s : Guest) → Typed s → sound (s .marks) (s .status) ≡ true → AllProper xs → distinct (modesOf xs) ≡ true
+pub nest-same : (xs : List Exception) (s : Guest) → Typed s → sound (s .marks) (s .status) ≡ true → AllProper xs
+    → distinct (modesOf xs) ≡ true
     → AllReturn s xs × SameBut (modesOf xs) (writtenBy xs) (nested s xs) s
 nest-same [] s typed ok proper d = (tt, same-refl [] [] s)
 nest-same (x ∷ xs) s typed ok proper d =
@@ -60,8 +63,8 @@ nest-same (x ∷ xs) s typed ok proper d =
     let other = not-true _ (and-left (not (among (each modeNumber (modesOf xs)) (modeNumber m))) (distinct (modesOf xs)) d) in
     ((later .0, returns-around s x xs typed ok (proper .0) other (later .1)), same-around s x xs typed ok (proper .0) other (later .1))
 
--- EACH AS IT WAS LEFT: no return changes anything but status word and PC, so that a saved word, a link or a fault register is as the last exception that
--- wrote it left it, whatever they answer
+-- EACH AS IT WAS LEFT: no return changes anything but status word and PC, so that a saved word, a link or a fault register is as the last
+-- exception that wrote it left it, whatever they answer
 pub as-left : (xs : List Exception) (s : Guest) → OnlyMoved (nested s xs) (lastLeft s xs)
 as-left [] s = record { regs = refl; saved = refl; faults = refl; sctlr = refl; vbar = refl; ttbcr = refl; marks = refl }
 as-left (x ∷ xs) s = moved-trans (only-moved (nested (taken s x) xs) (correctionAt s x)) (as-left xs (taken s x))

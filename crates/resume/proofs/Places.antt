@@ -75,10 +75,12 @@ place-tells Undefined = refl
 place-tells Fiq = refl
 place-tells Irq = refl
 
-pub link-differs : (ms : List Mode) (m : Mode) → among (each modeNumber ms) (modeNumber m) ≡ false → among (each linkPlace ms) (linkPlace m) ≡ false
+pub link-differs : (ms : List Mode) (m : Mode) → among (each modeNumber ms) (modeNumber m) ≡ false
+    → among (each linkPlace ms) (linkPlace m) ≡ false
 link-differs = place-differs linkPlace modeOfLink link-tells
 
-pub saved-differs : (ms : List Mode) (m : Mode) → among (each modeNumber ms) (modeNumber m) ≡ false → among (each savedPlace ms) (savedPlace m) ≡ false
+pub saved-differs : (ms : List Mode) (m : Mode) → among (each modeNumber ms) (modeNumber m) ≡ false
+    → among (each savedPlace ms) (savedPlace m) ≡ false
 saved-differs = place-differs savedPlace modeOfPlace place-tells
 
 -- ---- a mode's saved word stands at its place, and saving one sets it there

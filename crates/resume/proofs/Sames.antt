@@ -1,5 +1,5 @@
--- The relation of two states that are equal but for some modes' saved words and links and some fault registers: it is reflexive and transitive, and an
--- exception and a return keep it.
+-- The relation of two states that are equal but for some modes' saved words and links and some fault registers: it is reflexive and
+-- transitive, and an exception and a return keep it.
 use mathlib.Core.Path.{_≡_, refl, sym, ap, ap₂, _∙_, subst}
 use mathlib.Core.Bool.{Bool, true, false}
 use mathlib.Core.List.{List, [], _∷_, _++_}
@@ -71,7 +71,8 @@ equal-saved : (ps : List ℕ) (m : Mode) {a b : Saved} {v w : ℕ} → EqualBut 
     → EqualBut ps (savedWords (savedIn m a v)) (savedWords (savedIn m b w))
 equal-saved ps m {a} {b} {v} {w} e q =
     subst (λ (l : List ℕ). EqualBut ps l (savedWords (savedIn m b w))) (sym (saved-set m a v))
-    (subst (EqualBut ps (set (savedWords a) (savedPlace m) v)) (ap (set (savedWords b) (savedPlace m)) q ∙ sym (saved-set m b w)) (equal-set ps (savedPlace m) v e))
+    (subst (EqualBut ps (set (savedWords a) (savedPlace m) v)) (ap (set (savedWords b) (savedPlace m)) q ∙ sym (saved-set m b w))
+    (equal-set ps (savedPlace m) v e))
 
 -- the places of two lists of modes
 each-append : (f : Mode → ℕ) (ms ns : List Mode) → each f (ms ++ ns) ≡ (each f ms ++ each f ns)
@@ -94,7 +95,8 @@ same-refl modes written s =
       marks = refl;
     }
 
-pub same-trans : (ms ns : List Mode) (ws vs : List ℕ) {s t u : Guest} → SameBut ns vs s t → SameBut ms ws t u → SameBut (ms ++ ns) (ws ++ vs) s u
+pub same-trans : (ms ns : List Mode) (ws vs : List ℕ) {s t u : Guest} → SameBut ns vs s t → SameBut ms ws t u
+    → SameBut (ms ++ ns) (ws ++ vs) s u
 same-trans ms ns ws vs {s} {t} {u} e f =
     record {
       regs =
@@ -137,12 +139,14 @@ module _ (modes : List Mode) (written : List ℕ) {s t : Guest} (same : SameBut 
       ap₂ (λ (k : Marks) (old : ℕ). entryStatus k (row .mode) (row .a) (row .f) old (s .sctlr)) (same .marks) (same .status)
       ∙ ap (entryStatus (t .marks) (row .mode) (row .a) (row .f) (t .status)) (same .sctlr)
 
-  pub enter-same : (row : Row) {f g : FaultRegisters} → EqualBut written (faultWords f) (faultWords g) → SameBut modes written (entered s row f) (entered t row g)
+  pub enter-same : (row : Row) {f g : FaultRegisters} → EqualBut written (faultWords f) (faultWords g)
+      → SameBut modes written (entered s row f) (entered t row g)
   unfolding entered
   enter-same row e =
       record {
         regs =
-            subst (λ (v : ℕ). EqualBut (each linkPlace modes) (set (s .regs) (row .link) (linkFrom s row)) (set (t .regs) (row .link) v)) (link-same row)
+            subst (λ (v : ℕ). EqualBut (each linkPlace modes) (set (s .regs) (row .link) (linkFrom s row)) (set (t .regs) (row .link) v))
+            (link-same row)
             (equal-set (each linkPlace modes) (row .link) (linkFrom s row) (same .regs));
         pc = ap₂ (λ (c v : ℕ). (vectorBase c v + row .vector) % 2 ^ 32) (same .sctlr) (same .vbar);
         status = status-same row;
@@ -199,5 +203,6 @@ module _ (modes : List Mode) (written : List ℕ) {s t : Guest} (same : SameBut 
 
     pub return-same : (c : Signed) → Passes t → SameBut modes written (returned s c .state) (returned t c .state)
     return-same c p =
-        subst (λ (u : Guest). SameBut modes written u (returned t c .state)) (sym (ap (λ (r : Resumed). r .state) (returns-so s c (passes-same p))))
+        subst (λ (u : Guest). SameBut modes written u (returned t c .state))
+        (sym (ap (λ (r : Resumed). r .state) (returns-so s c (passes-same p))))
         (subst (SameBut modes written (back s c)) (sym (ap (λ (r : Resumed). r .state) (returns-so t c p))) (back-same c))

@@ -1,5 +1,5 @@
--- A nest (02, C-22): "a whole nest of injections, each returned in turn, as long as no two enter the same mode". Over rows, so that injections and deliveries
--- are one law.
+-- A nest (02, C-22): "a whole nest of injections, each returned in turn, as long as no two enter the same mode". Over rows, so that
+-- injections and deliveries are one law.
 use mathlib.Core.Path.{_≡_}
 use mathlib.Core.Bool.{Bool, true, not, _&&_}
 use mathlib.Core.List.{List, [], _∷_, _++_}
@@ -70,8 +70,8 @@ abbrev pub distinct : List Mode → Bool
 distinct [] = true
 distinct (m ∷ ms) = not (among (each modeNumber ms) (modeNumber m)) && distinct ms
 
--- one exception undone: the first state, but for the link register and the saved status of the mode entered and the fault registers, each as the exception
--- left it
+-- one exception undone: the first state, but for the link register and the saved status of the mode entered and the fault registers, each
+-- as the exception left it
 abbrev pub undone : Guest → Row → FaultRegisters → Guest
 undone s row faults =
     changed s (withRegister (s .regs) (row .link) (linkFrom s row)) (s .pc) (s .status) (savedIn (row .mode) (s .saved) (s .status)) faults

@@ -1,4 +1,5 @@
--- The return (02, C-22): "status word from the current mode's saved word, PC from the link register less a stated signed correction, modulo 2^32".
+-- The return (02, C-22): "status word from the current mode's saved word, PC from the link register less a stated signed correction, modulo
+-- 2^32".
 use Prim.Native.Nat.{ℕ}
 use mathlib.Core.Bool.{Bool, not, _&&_, cond}
 use mathlib.Core.List.{List, [], _∷_}
@@ -38,7 +39,8 @@ restored s mode status c =
 abbrev pub back : Guest → Signed → Guest
 back s c = restored s (modeOf s) (savedOf (modeOf s) (s .saved)) c
 
--- the tests in their order: an unsound state, a mode without a saved word, a saved word that is no sound status word under the state's marks
+-- the tests in their order: an unsound state, a mode without a saved word, a saved word that is no sound status word under the state's
+-- marks
 abbrev pub returnTests : Guest → List (Test Answer)
 returnTests s =
     needs (sound (s .marks) (s .status)) UnsoundStatus

@@ -1,5 +1,5 @@
--- States that are equal but in some places (02, C-22): "the first state again, but for the saved status and link register of the mode entered and the fault
--- registers written".
+-- States that are equal but in some places (02, C-22): "the first state again, but for the saved status and link register of the mode
+-- entered and the fault registers written".
 use mathlib.Core.Path.{_≡_}
 use mathlib.Core.Bool.{false}
 use mathlib.Core.List.{List, [], _∷_}

@@ -22,7 +22,8 @@ mask-isv n isv code =
     ∙ mask-either n (not isv || mmuFault code) (between 0x13 0x17 code) (λ e. not (ras e))
 
 pub isv-mask : (isv : Bool) (code : ℕ)
-    → maskOf (λ e. isvRule e isv code) ≡ cond (not isv || mmuFault code) (maskOf (λ e. true)) (cond (between 0x13 0x17 code) (maskOf (λ e. not (ras e))) 0)
+    → maskOf (λ e. isvRule e isv code) ≡ cond (not isv || mmuFault code) (maskOf (λ e. true))
+    (cond (between 0x13 0x17 code) (maskOf (λ e. not (ras e))) 0)
 unfolding maskOf
 isv-mask = mask-isv editions
 

@@ -1,4 +1,5 @@
--- The rules that go by the edition (01, 'Layout of the word'; 02, C-20): fault codes, SET, the codes of a valid instruction syndrome, and DFSC of an SError interrupt.
+-- The rules that go by the edition (01, 'Layout of the word'; 02, C-20): fault codes, SET, the codes of a valid instruction syndrome, and
+-- DFSC of an SError interrupt.
 use Prim.Native.Nat.{ℕ}
 use mathlib.Core.Bool.{Bool, true, not, _&&_, _||_}
 use lib.Dec.{eqb}

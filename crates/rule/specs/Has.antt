@@ -1,5 +1,5 @@
--- An edition has a record (01, 'Editions') when the layout lines, the IL and abort rules and the fault codes allow its class and fields there, and each
--- field fits its place. From each origin the editions have other records (02, C-23).
+-- An edition has a record (01, 'Editions') when the layout lines, the IL and abort rules and the fault codes allow its class and fields
+-- there, and each field fits its place. From each origin the editions have other records (02, C-23).
 use Prim.Native.Nat.{ℕ}
 use mathlib.Core.Bool.{Bool, _&&_}
 use Rattle.bits.specs.Layout.{fitting}

@@ -1,5 +1,6 @@
--- The IL rule of the long form (01, 'Layout of the word'; 02, C-13, C-20 and C-23): IL must be 1 for EC 0x00, 0x0E, 0x20, 0x22, for 0x24 when ISV is 0, for instructions
--- without a 16-bit form, in C-20's classes in all but 0x38, and from AArch64 in every class. Elsewhere IL may be either.
+-- The IL rule of the long form (01, 'Layout of the word'; 02, C-13, C-20 and C-23): IL must be 1 for EC 0x00, 0x0E, 0x20, 0x22, for 0x24
+-- when ISV is 0, for instructions without a 16-bit form, in C-20's classes in all but 0x38, and from AArch64 in every class. Elsewhere IL
+-- may be either.
 use Prim.Native.Nat.{ℕ}
 use mathlib.Core.Bool.{Bool, _||_}
 use mathlib.Core.List.{List, [], _∷_}

@@ -1,9 +1,10 @@
--- The rules of the layout lines and of aborts that ask nothing of the edition (01, 'Layout of the word'; for C-20's classes source 001; 02, C-23). Three of
--- them go by the trap's origin: the condition, what ISV 1 needs, and SSE.
+-- The rules of the layout lines and of aborts that ask nothing of the edition (01, 'Layout of the word'; for C-20's classes source 001; 02,
+-- C-23). Three of them go by the trap's origin: the condition, what ISV 1 needs, and SSE.
 use Prim.Native.Nat.{ℕ}
 use mathlib.Core.Bool.{Bool, true, not, _&&_, _||_}
 use lib.Dec.{leb, ltb, eqb}
-use Rattle.iss.specs.Rule.{implies, conditionRule, directionRule, immediateRule, addressingRule, passedRule, abortRule, extensionRule, maintenanceRule}
+use Rattle.iss.specs.Rule.{implies, conditionRule, directionRule, immediateRule, addressingRule, passedRule, abortRule, extensionRule}
+use Rattle.iss.specs.Rule.{maintenanceRule}
 use Rattle.record.specs.Origin.{fromAArch64}
 use Rattle.record.specs.declared.origin.Origin.{Origin}
 use Rattle.record.specs.declared.kinds.DataAbort.{DataAbort}
@@ -17,7 +18,8 @@ conditionFrom o cv cond = implies (fromAArch64 o) (cv && eqb cond 0b1110) && con
 abbrev pub noSyndromeRule : DataAbort → Bool
 noSyndromeRule r = eqb (r .sas) 0 && not (r .sse) && eqb (r .srt) 0 && not (r .sf) && not (r .ar)
 
--- ISV 1 needs CM 0 and S1PTW 0, and from AArch32 SF 0, SAS below 3 and SRT neither 15 nor 31; from AArch64 SAS may be 3, SF either and SRT anything
+-- ISV 1 needs CM 0 and S1PTW 0, and from AArch32 SF 0, SAS below 3 and SRT neither 15 nor 31; from AArch64 SAS may be 3, SF either and SRT
+-- anything
 abbrev pub aarch32Access : DataAbort → Bool
 aarch32Access r = not (r .sf) && ltb (r .sas) 3 && not (eqb (r .srt) 15) && not (eqb (r .srt) 31)
 

@@ -4,7 +4,8 @@ ghost use Rattle.bits.specs.Among.{among};
 ghost use Rattle.rule.specs.Il.{ilAlways, ilRule};
 use record::Origin;
 
-// A class of the long form alone that has no 16-bit instruction: a PC alignment fault, an SError interrupt, or a debug exception other than BKPT.
+// A class of the long form alone that has no 16-bit instruction: a PC alignment fault, an SError interrupt, or a debug exception other than
+// BKPT.
 fn il_always(class: u32) -> bool
     ensures { λ yes. ⌜ yes ≡ among ilAlways class ⌝ }
 {

@@ -1,11 +1,14 @@
-// The rules that ask nothing of the edition: fields that fit their bits, and what the layout and the abort rules allow. The kinds without a register
-// are the short form's too.
+// The rules that ask nothing of the edition: fields that fit their bits, and what the layout and the abort rules allow. The kinds without a
+// register are the short form's too.
 ghost use mathlib.Core.Path.{_≡_};
 ghost use mathlib.Core.Bool.{_&&_};
 ghost use Rattle.bits.specs.Layout.{fitting};
-ghost use Rattle.layout.specs.Fields.{plainFields, wfxFields, mcrFields, mcrrFields, ldcFields, simdFields, callFields, smcFields, instructionAbortFields, dataAbortFields, debugFields, stepFields, watchpointFields, serrorFields, systemFields, fieldsOf};
+ghost use Rattle.layout.specs.Fields.{plainFields, wfxFields, mcrFields, mcrrFields, ldcFields, simdFields, callFields, smcFields};
+ghost use Rattle.layout.specs.Fields.{instructionAbortFields, dataAbortFields, debugFields, stepFields, watchpointFields, serrorFields};
+ghost use Rattle.layout.specs.Fields.{systemFields, fieldsOf};
 ghost use Rattle.iss.specs.Rule.{conditionRule, directionRule, immediateRule, addressingRule, passedRule, abortRule, maintenanceRule};
-ghost use Rattle.rule.specs.Rule.{conditionFrom, noSyndromeRule, aarch32Access, validSyndromeRule, syndromeRule, extensionFrom, dataRule, stepRule, errorRule, layoutRule};
+ghost use Rattle.rule.specs.Rule.{conditionFrom, noSyndromeRule, aarch32Access, validSyndromeRule, syndromeRule, extensionFrom};
+ghost use Rattle.rule.specs.Rule.{dataRule, stepRule, errorRule, layoutRule};
 use record::Call;
 use record::DataAbort;
 use record::Debug;

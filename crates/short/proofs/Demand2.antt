@@ -1,5 +1,5 @@
--- Demand 2 for words: in each short edition a word is taken exactly when some record that the edition has writes to it, and writing that record gives the
--- same word.
+-- Demand 2 for words: in each short edition a word is taken exactly when some record that the edition has writes to it, and writing that
+-- record gives the same word.
 -- Assumes nothing.
 use mathlib.Core.Path.{_≡_}
 use mathlib.Core.Bool.{true}

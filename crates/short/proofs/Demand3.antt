@@ -1,5 +1,5 @@
--- Demand 3 for words and records: whatever word one edition puts out for a record, reading it in another, or in the same, gives back that very record
--- exactly when the reading edition has it, and otherwise refusal 6 with the editions that have the record, and their number.
+-- Demand 3 for words and records: whatever word one edition puts out for a record, reading it in another, or in the same, gives back that
+-- very record exactly when the reading edition has it, and otherwise refusal 6 with the editions that have the record, and their number.
 -- Assumes nothing.
 use mathlib.Core.Path.{_≡_}
 use mathlib.Core.Bool.{true, false}

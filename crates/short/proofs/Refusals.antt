@@ -1,5 +1,5 @@
--- Each refusal exactly. A number comes exactly when its test is the first that fails, 0 exactly when none fails, and 6 names exactly the editions that have the
--- word or record, and their number.
+-- Each refusal exactly. A number comes exactly when its test is the first that fails, 0 exactly when none fails, and 6 names exactly the
+-- editions that have the word or record, and their number.
 -- Assumes nothing.
 use mathlib.Core.Path.{_≡_, refl}
 use mathlib.Core.Bool.{Bool, false}
@@ -37,13 +37,22 @@ module _ (e : ℕ) (hsr : Hsr) where
   -- reading's numbers are 0, 1, 3, 4, 5 and 6
   pub read-numbers : OneOfReading (readNumbers .number (readOf e hsr))
   read-numbers =
-      Forms.number-is OneOfReading (readList e hsr) (reads e hsr refl)
-      (inr (inl refl), (inr (inr (inl refl)), (inr (inr (inr (inl refl))), (inr (inr (inr (inr (inl refl)))), (inr (inr (inr (inr (inr refl)))), tt)))))
+      Forms.number-is OneOfReading (readList e hsr) (reads e hsr refl) (
+        inr (inl refl),
+        (
+          inr (inr (inl refl)),
+          (
+            inr (inr (inr (inl refl))),
+            (inr (inr (inr (inr (inl refl)))), (inr (inr (inr (inr (inr refl)))), tt)),
+          ),
+        ),
+      )
       (inl refl)
 
   pub read-six-exactly : (mask count : ℕ)
       → (readOf e hsr ≡ Read.Refused (OtherEditions mask count))
-      ↔ (OthersHave editions (λ x. hasWord x (hsr .0)) e × (mask ≡ maskOf (λ x. hasWord x (hsr .0))) × (count ≡ countBelow editions (λ x. hasWord x (hsr .0))))
+      ↔ (OthersHave editions (λ x. hasWord x (hsr .0)) e × (mask ≡ maskOf (λ x. hasWord x (hsr .0)))
+      × (count ≡ countBelow editions (λ x. hasWord x (hsr .0))))
   unfolding readOf maskOf
   read-six-exactly = Forms.read-six-exactly shortForm sound read-shows e (hsr .0)
 

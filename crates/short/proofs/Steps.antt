@@ -113,10 +113,12 @@ module _ (e : ℕ) (hsr : Hsr) where
   rewritten-refused = again-refused read-shows asWritten (hsr .0) (Form.readAs shortForm e (hsr .0))
 
 module _ (writer reader : ℕ) (r : Record) where
-  pub carried-word : (hsr : Hsr) → writeOf writer r ≡ Written.Word hsr → carriedOf writer reader r ≡ asCarried (Form.readBack shortForm reader r)
+  pub carried-word : (hsr : Hsr) → writeOf writer r ≡ Written.Word hsr
+      → carriedOf writer reader r ≡ asCarried (Form.readBack shortForm reader r)
   unfolding writeOf carriedOf
   carried-word hsr = carried-given written-shows Carried.Unwritten asCarried shortForm reader r (Form.writeAs shortForm writer r) (hsr .0)
 
-  pub carried-unwritten : (refusal : Refusal) → writeOf writer r ≡ Written.Refused refusal → carriedOf writer reader r ≡ Carried.Unwritten refusal
+  pub carried-unwritten : (refusal : Refusal) → writeOf writer r ≡ Written.Refused refusal
+      → carriedOf writer reader r ≡ Carried.Unwritten refusal
   unfolding writeOf carriedOf
   carried-unwritten = carried-refused written-shows Carried.Unwritten asCarried shortForm reader r (Form.writeAs shortForm writer r)

@@ -31,8 +31,9 @@ readList e hsr =
     ∷ needs (hasWord e (hsr .0)) 6
     ∷ []
 
--- THE PROMISE of reading: the answer; its number, that of the first test that fails; and with 6 alone the mask of the editions that have the word, and how
--- many they are
+-- THE PROMISE of reading: the answer; its number, that of the first test that fails; and with 6 alone the mask of the editions that have
+-- the word, and how many they are
 abbrev pub Reading : ℕ → Hsr → Read → Type 0
 Reading e hsr =
-    Promise readNumbers (readOf e hsr) (decide (readList e hsr) 0) (maskOf (λ x. hasWord x (hsr .0))) (countBelow editions (λ x. hasWord x (hsr .0)))
+    Promise readNumbers (readOf e hsr) (decide (readList e hsr) 0) (maskOf (λ x. hasWord x (hsr .0)))
+    (countBelow editions (λ x. hasWord x (hsr .0)))

@@ -1,5 +1,5 @@
--- What reading and writing test before they ask for the edition (01, 'Numbers a call may answer'): of a word its own bits, of a record its class and IL. The short form
--- has no refusal 2.
+-- What reading and writing test before they ask for the edition (01, 'Numbers a call may answer'): of a word its own bits, of a record its
+-- class and IL. The short form has no refusal 2.
 use Prim.Native.Nat.{ℕ}
 use mathlib.Core.Bool.{Bool}
 use mathlib.Core.List.{List, [], _∷_}

@@ -27,7 +27,7 @@ writeList e r =
     ∷ needs (has e r) 6
     ∷ []
 
--- THE PROMISE of writing: the answer; its number, that of the first test that fails; and with 6 alone the mask of the editions that have the record, and how
--- many they are
+-- THE PROMISE of writing: the answer; its number, that of the first test that fails; and with 6 alone the mask of the editions that have
+-- the record, and how many they are
 abbrev pub Writing : ℕ → Record → Written → Type 0
 Writing e r = Promise writtenNumbers (writeOf e r) (decide (writeList e r) 0) (editionsOf r) (countBelow editions (λ x. has x r))

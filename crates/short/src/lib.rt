@@ -93,8 +93,8 @@ pub fn rewrite(edition: u32, hsr: Hsr) -> Written
     }
 }
 
-// Demand 3 beside running code: writes a record in one edition and reads the word in another. The very record comes back where the reader's edition has
-// it, else refusal 6.
+// Demand 3 beside running code: writes a record in one edition and reads the word in another. The very record comes back where the reader's
+// edition has it, else refusal 6.
 pub fn carry(writer: u32, reader: u32, r: Record) -> Carried
     ensures { λ c. ⌜ Carrying writer reader r c ⌝ }
 {

@@ -1,5 +1,5 @@
--- The layout lines of the short form (source 004): where a record's class, IL and fields stand in the word. Bits that no line names are 0. The kinds without a
--- register have 01's lines, which source 004 shows alike.
+-- The layout lines of the short form (source 004): where a record's class, IL and fields stand in the word. Bits that no line names are 0.
+-- The kinds without a register have 01's lines, which source 004 shows alike.
 use Prim.Native.Nat.{ℕ}
 use mathlib.Core.List.{List, [], _∷_}
 use Rattle.bits.specs.Layout.{Field, at, flagAt, wordOf}

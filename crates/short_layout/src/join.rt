@@ -1,7 +1,8 @@
 // A record put together into a word, each field cut to its bits. Nothing is judged here.
 ghost use mathlib.Core.Path.{_≡_};
 ghost use Rattle.bits.specs.Inner.{joinedFrom};
-ghost use Rattle.short_layout.specs.Fields.{mcrFields, mcrrFields, ldcFields, simdFields, instructionAbortFields, dataAbortFields, fieldsOf};
+ghost use Rattle.short_layout.specs.Fields.{mcrFields, mcrrFields, ldcFields, simdFields, instructionAbortFields, dataAbortFields};
+ghost use Rattle.short_layout.specs.Fields.{fieldsOf};
 use bits::flag;
 use bits::place;
 use layout::join;

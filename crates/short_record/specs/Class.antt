@@ -1,4 +1,5 @@
--- The exception classes of the short form (request C-11 of document 02: those of document 01, all of which source 004 has), by kind of record.
+-- The exception classes of the short form (request C-11 of document 02: those of document 01, all of which source 004 has), by kind of
+-- record.
 use Prim.Native.Nat.{ℕ}
 use mathlib.Core.Bool.{Bool, true}
 use mathlib.Core.List.{List, [], _∷_}

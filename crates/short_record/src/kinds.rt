@@ -1,5 +1,6 @@
-// The records of the short form: what an HSR word says, by kind of exception. Kinds without a register have the long form's layout and are its structs; a
-// register here is one of the current mode's, R0 to R15. A record can hold what no word has, so that the writer can refuse it.
+// The records of the short form: what an HSR word says, by kind of exception. Kinds without a register have the long form's layout and are
+// its structs; a register here is one of the current mode's, R0 to R15. A record can hold what no word has, so that the writer can refuse
+// it.
 use record::Call;
 use record::Plain;
 use record::Smc;

@@ -1,5 +1,5 @@
-// Records of the short form in rows: a kind, and then its fields in the order of its struct. Kinds without a register are the long form's, and
-// so are their numbers.
+// Records of the short form in rows: a kind, and then its fields in the order of its struct. Kinds without a register are the long form's,
+// and so are their numbers.
 use rows::Reply;
 use rows::Row;
 use rows::flag;

@@ -32,7 +32,8 @@ samples =
     Record.Plain record { class = 0x00; il = true } ∷ Record.Wfx record { il = true; cv = true; cond = 14; ti = false } ∷ mrc 0x03
     ∷ mrrc 0x04 ∷ mrc 0x05
     ∷ Record.Ldc record { il = true; cv = true; cond = 14; imm8 = 0; rn = 0; offset = true; am = 0; direction = true }
-    ∷ Record.Simd record { il = true; cv = true; cond = 14; ta = true; coproc = 0b1010 } ∷ mrc 0x08 ∷ mrrc 0x0C ∷ Record.Plain record { class = 0x0E; il = true }
+    ∷ Record.Simd record { il = true; cv = true; cond = 14; ta = true; coproc = 0b1010 } ∷ mrc 0x08 ∷ mrrc 0x0C
+    ∷ Record.Plain record { class = 0x0E; il = true }
     ∷ Record.Call record { class = 0x11; il = true; imm16 = 0 } ∷ Record.Call record { class = 0x12; il = true; imm16 = 1 }
     ∷ Record.Smc record { il = true; cv = false; cond = 0; ccknownpass = false }
     ∷ Record.InstructionAbort record { il = true; fnv = false; ea = false; s1ptw = false; code = 5 }

@@ -1,4 +1,5 @@
--- The rules that go by the edition (source 004): its fault code lists, AET and FnV, WnR of an asynchronous abort, and the codes of a valid instruction syndrome.
+-- The rules that go by the edition (source 004): its fault code lists, AET and FnV, WnR of an asynchronous abort, and the codes of a valid
+-- instruction syndrome.
 use Prim.Native.Nat.{ℕ}
 use mathlib.Core.Bool.{Bool, true, not, _&&_, _||_}
 use lib.Dec.{eqb}

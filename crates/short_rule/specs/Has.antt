@@ -1,5 +1,5 @@
--- A short edition has a record (01, 'Editions', over source 004's lines) when the layout lines, the IL and abort rules and the fault codes allow its class and fields
--- there, and each field fits its place.
+-- A short edition has a record (01, 'Editions', over source 004's lines) when the layout lines, the IL and abort rules and the fault codes
+-- allow its class and fields there, and each field fits its place.
 use Prim.Native.Nat.{ℕ}
 use mathlib.Core.Bool.{Bool, _&&_}
 use Rattle.bits.specs.Layout.{fitting}

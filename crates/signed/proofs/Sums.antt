@@ -41,7 +41,8 @@ unfolding sumOf
 sum-back w (pos zero) h = omega arith
 sum-back w (pos (suc n)) h = go (ltb ((w + suc n) % 2 ^ 32) (suc n)) refl
   where
-    go : (b : Bool) → ltb ((w + suc n) % 2 ^ 32) (suc n) ≡ b → modulo (cond b (negsuc (suc n - suc ((w + suc n) % 2 ^ 32))) (pos ((w + suc n) % 2 ^ 32 - suc n))) ≡ w
+    go : (b : Bool) → ltb ((w + suc n) % 2 ^ 32) (suc n) ≡ b
+        → modulo (cond b (negsuc (suc n - suc ((w + suc n) % 2 ^ 32))) (pos ((w + suc n) % 2 ^ 32 - suc n))) ≡ w
     go true t = let l = ltb-true ((w + suc n) % 2 ^ 32) (suc n) t in omega arith
     go false t = let l = ltb-false ((w + suc n) % 2 ^ 32) (suc n) t in omega arith
 sum-back w (negsuc n) h = go (ltb w (suc n)) refl

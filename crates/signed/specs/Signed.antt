@@ -1,5 +1,5 @@
--- A signed number (01: "The correction is a signed number; the link is PC plus it, modulo 2^32"; 02, C-18: "the first address modulo 2^32, the signed change
--- of the base"; C-22: "less a stated signed correction, modulo 2^32").
+-- A signed number (01: "The correction is a signed number; the link is PC plus it, modulo 2^32"; 02, C-18: "the first address modulo 2^32,
+-- the signed change of the base"; C-22: "less a stated signed correction, modulo 2^32").
 use Prim.Native.Nat.{ℕ, _-_, _%_, _^_}
 use lib.IntN.{ℤ, pos, negsuc, negℤ, _+ℤ_}
 use Rattle.signed.specs.declared.Signed.{Signed}

@@ -22,13 +22,15 @@ module _ (n i g t l : ℕ) (hn : n < 32) (hi : i < 4) (hg : g < 512) (ht : t < 6
   abbrev word : ℕ
   word = n * 2 ^ 27 + i * 2 ^ 25 + g * 2 ^ 16 + t * 2 ^ 10 + l * 2 ^ 0
 
-  digits : (fieldOf word 9 0 ≡ l) × (fieldOf word 15 10 ≡ t) × (fieldOf word 24 16 ≡ g) × (fieldOf word 26 25 ≡ i) × (fieldOf word 31 27 ≡ n)
+  digits : (fieldOf word 9 0 ≡ l) × (fieldOf word 15 10 ≡ t) × (fieldOf word 24 16 ≡ g) × (fieldOf word 26 25 ≡ i)
+      × (fieldOf word 31 27 ≡ n)
   digits = (omega arith, omega arith, omega arith, omega arith, omega arith)
 
 pub with-it : (w it : ℕ) → Advanced w it (withIt w it)
 unfolding withIt
 with-it w it =
-    let d = digits (fieldOf w 31 27) (fieldOf it 1 0) (fieldOf w 24 16) (fieldOf it 7 2) (fieldOf w 9 0) (omega arith) (omega arith) (omega arith) (omega arith) (omega arith) in
+    let d = digits (fieldOf w 31 27) (fieldOf it 1 0) (fieldOf w 24 16) (fieldOf it 7 2) (fieldOf w 9 0) (omega arith) (omega arith)
+    (omega arith) (omega arith) (omega arith) in
     record { kept9-0 = d .0; it15-10 = d .1; kept24-16 = d .2; it26-25 = d .3; kept31-27 = d .4 }
 
 -- IT of the new word is the advanced one
@@ -42,7 +44,8 @@ two-parts it h = omega arith
 pub it-advances : (w : ℕ) → itOf (itAdvanced w) ≡ itAdvance (itOf w)
 it-advances w =
     ap₂ (λ (x y : ℕ). x * 2 ^ 2 + y) (a .it15-10) (a .it26-25)
-    ∙ two-parts (itAdvance (itOf w)) (fits (eqb (fieldOf (itOf w) 2 0) 0) (fieldOf (itOf w) 7 5) (fieldOf (itOf w) 3 0) (omega arith) (omega arith))
+    ∙ two-parts (itAdvance (itOf w)) (fits (eqb (fieldOf (itOf w) 2 0) 0) (fieldOf (itOf w) 7 5) (fieldOf (itOf w) 3 0) (omega arith)
+    (omega arith))
   where
     a : Advanced w (itAdvance (itOf w)) (itAdvanced w)
     a = with-it w (itAdvance (itOf w))

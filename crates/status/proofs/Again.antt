@@ -63,7 +63,8 @@ pan-kept marked old sctlr e = ap (λ (b : Bool). entryPan b old sctlr) e
 ssbs-kept : (marked : Bool) (old sctlr : ℕ) → marked ≡ false → entrySsbs marked old sctlr ≡ fieldOf old 23 23
 ssbs-kept marked old sctlr e = ap (λ (b : Bool). entrySsbs b old sctlr) e
 
-pub sound-again : (marks : Marks) (m : Mode) (a f : Bool) (old sctlr : ℕ) → sound marks old ≡ true → sound marks (entryStatus marks m a f old sctlr) ≡ true
+pub sound-again : (marks : Marks) (m : Mode) (a f : Bool) (old sctlr : ℕ) → sound marks old ≡ true
+    → sound marks (entryStatus marks m a f old sctlr) ≡ true
 sound-again marks m a f old sctlr e =
     make-sound marks (entryStatus marks m a f old sctlr)
     record {

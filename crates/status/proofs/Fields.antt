@@ -53,20 +53,44 @@ pub record Fields (marks : Marks) (m : Mode) (a f : Bool) (old sctlr new : ℕ) 
   pub flags31-27 : fieldOf new 31 27 ≡ fieldOf old 31 27
 
 -- a sum of the fields, each in its place and within its width: 31:27, 24, 23, 22, 21, 19:16, 9, 8, 7, 6, 5 and 4:0
-module _ (n j s p d g e a f t m : ℕ) (hn : n < 32) (hj : j < 2) (hs : s < 2) (hp : p < 2) (hd : d < 2) (hg : g < 16) (he : e < 2) (ha : a < 2) (hf : f < 2) (ht : t < 2) (hm : m < 32) where
+module _ (n j s p d g e a f t m : ℕ) (hn : n < 32) (hj : j < 2) (hs : s < 2) (hp : p < 2) (hd : d < 2) (hg : g < 16) (he : e < 2)
+    (ha : a < 2) (hf : f < 2) (ht : t < 2) (hm : m < 32) where
   abbrev word : ℕ
-  word = n * 2 ^ 27 + j * 2 ^ 24 + s * 2 ^ 23 + p * 2 ^ 22 + d * 2 ^ 21 + g * 2 ^ 16 + e * 2 ^ 9 + a * 2 ^ 8 + 1 * 2 ^ 7 + f * 2 ^ 6 + t * 2 ^ 5 + m
+  word = n * 2 ^ 27 + j * 2 ^ 24 + s * 2 ^ 23 + p * 2 ^ 22 + d * 2 ^ 21 + g * 2 ^ 16 + e * 2 ^ 9 + a * 2 ^ 8 + 1 * 2 ^ 7 + f * 2 ^ 6
+      + t * 2 ^ 5 + m
 
-  digits : (fieldOf word 4 0 ≡ m) × (fieldOf word 5 5 ≡ t) × (fieldOf word 6 6 ≡ f) × (fieldOf word 7 7 ≡ 1) × (fieldOf word 8 8 ≡ a) × (fieldOf word 9 9 ≡ e)
-      × (fieldOf word 15 10 ≡ 0) × (fieldOf word 19 16 ≡ g) × (fieldOf word 20 20 ≡ 0) × (fieldOf word 21 21 ≡ d) × (fieldOf word 22 22 ≡ p) × (fieldOf word 23 23 ≡ s) × (fieldOf word 24 24 ≡ j)
+  digits : (fieldOf word 4 0 ≡ m) × (fieldOf word 5 5 ≡ t) × (fieldOf word 6 6 ≡ f) × (fieldOf word 7 7 ≡ 1) × (fieldOf word 8 8 ≡ a)
+      × (fieldOf word 9 9 ≡ e)
+      × (fieldOf word 15 10 ≡ 0) × (fieldOf word 19 16 ≡ g) × (fieldOf word 20 20 ≡ 0) × (fieldOf word 21 21 ≡ d)
+      × (fieldOf word 22 22 ≡ p) × (fieldOf word 23 23 ≡ s) × (fieldOf word 24 24 ≡ j)
       × (fieldOf word 26 25 ≡ 0) × (fieldOf word 31 27 ≡ n)
-  digits = (omega arith, omega arith, omega arith, omega arith, omega arith, omega arith, omega arith, omega arith, omega arith, omega arith, omega arith, omega arith, omega arith, omega arith, omega arith)
+  digits = (
+    omega arith,
+    omega arith,
+    omega arith,
+    omega arith,
+    omega arith,
+    omega arith,
+    omega arith,
+    omega arith,
+    omega arith,
+    omega
+        arith,
+    omega arith,
+    omega arith,
+    omega arith,
+    omega arith,
+    omega arith,
+  )
 
-pub entry-fields : (marks : Marks) (m : Mode) (a f : Bool) (old sctlr : ℕ) → Fields marks m a f old sctlr (entryStatus marks m a f old sctlr)
+pub entry-fields : (marks : Marks) (m : Mode) (a f : Bool) (old sctlr : ℕ)
+    → Fields marks m a f old sctlr (entryStatus marks m a f old sctlr)
 unfolding entryStatus
 entry-fields marks m a f old sctlr =
-    let d = digits (fieldOf old 31 27) (fieldOf old 24 24) (entrySsbs (marks .ssbs) old sctlr) (entryPan (marks .pan) old sctlr) (fieldOf old 21 21) (fieldOf old 19 16) (fieldOf sctlr 25 25) (entryA a old) (entryF f old) (fieldOf sctlr 30 30) (modeNumber m)
-    (omega arith) (omega arith) (ssbs-bit (marks .ssbs) old sctlr) (pan-bit (marks .pan) old sctlr) (omega arith) (omega arith) (omega arith) (a-bit a old) (f-bit f old) (omega arith) (mode-bits m) in
+    let d = digits (fieldOf old 31 27) (fieldOf old 24 24) (entrySsbs (marks .ssbs) old sctlr) (entryPan (marks .pan) old sctlr)
+    (fieldOf old 21 21) (fieldOf old 19 16) (fieldOf sctlr 25 25) (entryA a old) (entryF f old) (fieldOf sctlr 30 30) (modeNumber m)
+    (omega arith) (omega arith) (ssbs-bit (marks .ssbs) old sctlr) (pan-bit (marks .pan) old sctlr) (omega arith) (omega arith)
+    (omega arith) (a-bit a old) (f-bit f old) (omega arith) (mode-bits m) in
     record {
       m4-0 = d .0;
       t5 = d .1;

@@ -12,7 +12,8 @@ use borrow.Author.Tests.{ne-eqb}
 -- a number and its multiple by a power of two are zero together
 scaled-zero : (x k : ℕ) → eqb (x * 2 ^ k) 0 ≡ eqb x 0
 scaled-zero zero k = ap (λ (n : ℕ). eqb n 0) (zero-mul (2 ^ k))
-scaled-zero (suc x) k = ne-eqb (suc x * 2 ^ k) 0 (λ e. not-suc-le-zero (subst (λ (n : ℕ). zero < n) e (mul-pos (zero-lt-suc x) (pow-pos k)))) ∙ sym (ne-eqb (suc x) 0 (λ e. omega arith))
+scaled-zero (suc x) k = ne-eqb (suc x * 2 ^ k) 0 (λ e. not-suc-le-zero
+    (subst (λ (n : ℕ). zero < n) e (mul-pos (zero-lt-suc x) (pow-pos k)))) ∙ sym (ne-eqb (suc x) 0 (λ e. omega arith))
 
 -- the test of a field of j bits from bit k up
 pub field-zero : (w j k : ℕ) → eqb (bitAnd w (2 ^ (j + k) - 2 ^ k)) 0 ≡ eqb (w / 2 ^ k % 2 ^ j) 0
@@ -31,7 +32,8 @@ or-next k {s = s} {v = v} p q m h =
     e = sym (split s k) ∙ ap (λ (r : ℕ). s / 2 ^ k * 2 ^ k + r) m ∙ add-zero (s / 2 ^ k * 2 ^ k)
 
 -- one bit in its place, set or kept, as the arm that was taken says
-pub set-or-kept : (k old : ℕ) {set b : Bool} → set ≡ b → cond b (2 ^ k) (bitAnd old (2 ^ (1 + k) - 2 ^ k)) ≡ cond set 1 (old / 2 ^ k % 2) * 2 ^ k
+pub set-or-kept : (k old : ℕ) {set b : Bool} → set ≡ b
+    → cond b (2 ^ k) (bitAnd old (2 ^ (1 + k) - 2 ^ k)) ≡ cond set 1 (old / 2 ^ k % 2) * 2 ^ k
 set-or-kept k old {b = b} e = arm b ∙ sym (ap (λ (x : Bool). cond x 1 (old / 2 ^ k % 2) * 2 ^ k) e)
   where
     arm : (b : Bool) → cond b (2 ^ k) (bitAnd old (2 ^ (1 + k) - 2 ^ k)) ≡ cond b 1 (old / 2 ^ k % 2) * 2 ^ k

@@ -20,7 +20,8 @@ abbrev everywhere : (ℕ → ℕ → Bool) → ℕ → Bool
 everywhere test bound = agree (λ m. not (isMode m) || agree (test m) (λ k. true) bound) (λ m. true) 32
 
 in-mode : (test : ℕ → ℕ → Bool) (bound : ℕ) → T (everywhere test bound) → (m : ℕ) → isMode m ≡ true → (k : ℕ) → k < bound → test m k ≡ true
-in-mode test bound t m mode k h = below (test m) (λ k. true) bound (holds (implied (isMode m) (agree (test m) (λ k. true) bound) mode at)) k h
+in-mode test bound t m mode k h = below (test m) (λ k. true) bound (holds (implied (isMode m) (agree (test m) (λ k. true) bound) mode at))
+    k h
   where
     at : (not (isMode m) || agree (test m) (λ k. true) bound) ≡ true
     at = below (λ m. not (isMode m) || agree (test m) (λ k. true) bound) (λ m. true) 32 t m (mode-below m mode)
@@ -62,4 +63,5 @@ number-injective m mode n k hn hk same = eqb-true n k (implied (eqb (numberIn m 
     at =
         let first : (n * 15 + k) / 15 ≡ n = omega arith in
         let second : (n * 15 + k) % 15 ≡ k = omega arith in
-        sym (ap₂ (λ (a b : ℕ). not (eqb (numberIn m a) (numberIn m b)) || eqb a b) first second) ∙ in-mode differ 225 pairs m mode (n * 15 + k) (omega arith)
+        sym (ap₂ (λ (a b : ℕ). not (eqb (numberIn m a) (numberIn m b)) || eqb a b) first second)
+        ∙ in-mode differ 225 pairs m mode (n * 15 + k) (omega arith)

@@ -42,11 +42,13 @@ module _ (h k d l : ℕ) (hh : h < 128) (hk : k < 4) (hd : d < 2) (hl : l < 2 ^ 
   abbrev word : ℕ
   word = h * 2 ^ 25 + k * 2 ^ 22 + d * 2 ^ 21 + l * 2 ^ 0
 
-  digits : (fieldOf word 20 0 ≡ l) × (fieldOf word 21 21 ≡ d) × (fieldOf word 23 22 ≡ k) × (fieldOf word 24 24 ≡ 0) × (fieldOf word 31 25 ≡ h)
+  digits : (fieldOf word 20 0 ≡ l) × (fieldOf word 21 21 ≡ d) × (fieldOf word 23 22 ≡ k) × (fieldOf word 24 24 ≡ 0)
+      × (fieldOf word 31 25 ≡ h)
   digits = (omega arith, omega arith, omega arith, omega arith, omega arith)
 
 pub moved : (w : ℕ) → Moved w (spsrStatus w)
 unfolding spsrStatus
 moved w =
-    let d = digits (fieldOf w 31 25) (fieldOf w 23 22) (fieldOf w 24 24) (fieldOf w 20 0) (omega arith) (omega arith) (omega arith) (omega arith) in
+    let d = digits (fieldOf w 31 25) (fieldOf w 23 22) (fieldOf w 24 24) (fieldOf w 20 0) (omega arith) (omega arith) (omega arith)
+    (omega arith) in
     record { low20-0 = d .0; dit21 = d .1; kept23-22 = d .2; zero24 = d .3; kept31-25 = d .4 }

@@ -43,7 +43,8 @@ same = ap (λ (n : ℕ). not (eqb n 1))
 pub unmarked-sound : (w : ℕ) → sound unmarked w ≡ baseSound w
 unfolding sound baseSound
 unmarked-sound w =
-    ap₂ _&&_ (ap₂ _&&_ (ap₂ _&&_ (ap (λ (b : Bool). isMode (fieldOf w 4 0) && b) (same (bit-24 w))) (same (bit-23 w))) (same (bit-22 w))) (same (bit-21 w))
+    ap₂ _&&_ (ap₂ _&&_ (ap₂ _&&_ (ap (λ (b : Bool). isMode (fieldOf w 4 0) && b) (same (bit-24 w))) (same (bit-23 w))) (same (bit-22 w)))
+    (same (bit-21 w))
     ∙ zero-bits (isMode (fieldOf w 4 0)) (fieldOf w 24 21) (omega arith)
 
 -- the four bits, each in its place, are the field in its place
@@ -68,5 +69,6 @@ beside n j s p d e = omega arith
 pub unmarked-entry : (m : Mode) (a : Bool) (old sctlr : ℕ) → entryStatus unmarked m a false old sctlr ≡ baseEntryStatus m a old sctlr
 unfolding entryStatus baseEntryStatus
 unmarked-entry m a old sctlr =
-    ap (λ (n : ℕ). n + kept old 19 16 + fieldOf sctlr 25 25 * 2 ^ 9 + entryA a old * 2 ^ 8 + 1 * 2 ^ 7 + kept old 6 6 + fieldOf sctlr 30 30 * 2 ^ 5 + modeNumber m)
+    ap (λ (n : ℕ). n + kept old 19 16 + fieldOf sctlr 25 25 * 2 ^ 9 + entryA a old * 2 ^ 8 + 1 * 2 ^ 7 + kept old 6 6
+    + fieldOf sctlr 30 30 * 2 ^ 5 + modeNumber m)
     (beside (kept old 31 27) (kept old 24 24) (kept old 23 23) (kept old 22 22) (kept old 21 21) (four old))

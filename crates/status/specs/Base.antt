@@ -1,6 +1,6 @@
--- 01 as it stood before request C-15, for guests that have none of its features ('Numbers a call may answer', number 9; 'Guest state and the five
--- injections'). The laws `unmarked-sound` and `unmarked-entry` (proofs/Unmarked.antt) say that where nothing is marked, what holds now is what
--- held then.
+-- 01 as it stood before request C-15, for guests that have none of its features ('Numbers a call may answer', number 9; 'Guest state and
+-- the five injections'). The laws `unmarked-sound` and `unmarked-entry` (proofs/Unmarked.antt) say that where nothing is marked, what holds
+-- now is what held then.
 use Prim.Native.Nat.{ℕ, _+_, _*_, _^_}
 use mathlib.Core.Bool.{Bool, false, _&&_, cond}
 use lib.Dec.{eqb}

@@ -1,5 +1,5 @@
--- A sound status word (01, 'Numbers a call may answer', number 9; 02, C-15): an accepted mode in bits 4:0, SSBS (23), PAN (22) and DIT (21) each 0
--- where not marked, and bit 24 always 0.
+-- A sound status word (01, 'Numbers a call may answer', number 9; 02, C-15): an accepted mode in bits 4:0, SSBS (23), PAN (22) and DIT (21)
+-- each 0 where not marked, and bit 24 always 0.
 use Prim.Native.Nat.{ℕ}
 use mathlib.Core.Bool.{Bool, not, _&&_, _||_}
 use Rattle.status.specs.declared.Marks.{Marks}

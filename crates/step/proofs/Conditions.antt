@@ -113,7 +113,8 @@ module _ (w : ℕ) (r : Record) {cond-field : ℕ} where
   unfolding passes
   by-status e = ap (passesBy w) e
 
-  pub by-it : conditionOf r ≡ Stated false cond-field → t32 w ≡ true → inBlock w ≡ true → passes w r ≡ conditionHolds (fieldOf (itOf w) 7 4) w
+  pub by-it : conditionOf r ≡ Stated false cond-field → t32 w ≡ true → inBlock w ≡ true
+      → passes w r ≡ conditionHolds (fieldOf (itOf w) 7 4) w
   by-it e t b =
       by-status e ∙ ap (λ (x : Bool). conditionHolds (cond x (fieldOf (itOf w) 7 4) 0b1110) w) (both t b)
     where

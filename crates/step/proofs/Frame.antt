@@ -39,7 +39,11 @@ pub record Stepped (s after : Guest) (il : Bool) : Type 0 where
 pub steps : (s : Guest) (regs : List ℕ) (il : Bool) → Stepped s (stepped s regs il) il
 unfolding stepped
 steps s regs il =
-    record { pc = refl; status = refl; kept = record { saved = refl; faults = refl; sctlr = refl; vbar = refl; ttbcr = refl; marks = refl } }
+    record {
+      pc = refl;
+      status = refl;
+      kept = record { saved = refl; faults = refl; sctlr = refl; vbar = refl; ttbcr = refl; marks = refl };
+    }
 
 pub registers-given : (s : Guest) (regs : List ℕ) (il : Bool) → stepped s regs il .regs ≡ regs
 unfolding stepped

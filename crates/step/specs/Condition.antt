@@ -1,5 +1,5 @@
--- Whether a trapped instruction counts (the manual's ConditionHolds and CurrentCond; 001, CV and COND): one whose condition fails does nothing, and
--- is stepped over.
+-- Whether a trapped instruction counts (the manual's ConditionHolds and CurrentCond; 001, CV and COND): one whose condition fails does
+-- nothing, and is stepped over.
 use Prim.Native.Nat.{ℕ}
 use mathlib.Core.Bool.{Bool, true, not, _&&_, cond}
 use lib.Dec.{eqb}

@@ -1,5 +1,5 @@
--- A trapped instruction stepped over: WFI, WFE, SMC and a cache maintenance operation, whose work is the monitor's own, and an instruction whose condition
--- fails. PC of these traps is at the instruction.
+-- A trapped instruction stepped over: WFI, WFE, SMC and a cache maintenance operation, whose work is the monitor's own, and an instruction
+-- whose condition fails. PC of these traps is at the instruction.
 use Prim.Native.Nat.{ℕ}
 use mathlib.Core.Bool.{Bool, false, not, _||_}
 use mathlib.Core.List.{List, [], _∷_}

@@ -1,4 +1,5 @@
--- What the two calls that step over an instruction promise: the answer and the whole state after it, and the answer's number, mask and count.
+-- What the two calls that step over an instruction promise: the answer and the whole state after it, and the answer's number, mask and
+-- count.
 use mathlib.Core.Path.{_≡_}
 use Rattle.bits.specs.Decide.{decide}
 use Rattle.record.specs.declared.kinds.Record.{Record}

@@ -1,4 +1,5 @@
--- The state past an instruction (02, C-17): PC moves by its length, modulo 2^32, IT advances, and nothing else changes but the registers that are given.
+-- The state past an instruction (02, C-17): PC moves by its length, modulo 2^32, IT advances, and nothing else changes but the registers
+-- that are given.
 use Prim.Native.Nat.{ℕ, _+_, _%_, _^_}
 use mathlib.Core.Bool.{Bool, cond}
 use mathlib.Core.List.{List}

@@ -1,5 +1,5 @@
--- Demand 2 for words: in each edition a syndrome is taken exactly when some record that the edition has writes to it, and writing that record gives the
--- same word.
+-- Demand 2 for words: in each edition a syndrome is taken exactly when some record that the edition has writes to it, and writing that
+-- record gives the same word.
 -- Assumes nothing.
 use mathlib.Core.Path.{_≡_}
 use mathlib.Core.Bool.{true}
@@ -36,7 +36,8 @@ module _ (o : Origin) where
   read-as-written e esr r = Forms2.read-as-written (longForm o) (sound o) read-shows written-shows e (esr .0) r
 
   -- a word is taken exactly when some record writes to it
-  pub taken-exactly : (e : ℕ) (esr : Esr) → ((r : Record) × (readOf o e esr ≡ Read.Taken r)) ↔ ((r : Record) × (writeOf o e r ≡ Written.Word esr))
+  pub taken-exactly : (e : ℕ) (esr : Esr) → ((r : Record) × (readOf o e esr ≡ Read.Taken r)) ↔
+      ((r : Record) × (writeOf o e r ≡ Written.Word esr))
   unfolding readOf writeOf
   taken-exactly e esr = Forms2.taken-exactly (longForm o) (sound o) read-shows written-shows e (esr .0)
 

@@ -1,5 +1,5 @@
--- Demand 3 for words and records: whatever word one edition puts out for a record, reading it in another, or in the same, gives back that very record
--- exactly when the reading edition has it, and otherwise refusal 6 with the editions that have the record, and their number.
+-- Demand 3 for words and records: whatever word one edition puts out for a record, reading it in another, or in the same, gives back that
+-- very record exactly when the reading edition has it, and otherwise refusal 6 with the editions that have the record, and their number.
 -- Assumes nothing.
 use mathlib.Core.Path.{_≡_}
 use mathlib.Core.Bool.{true, false}
@@ -33,7 +33,8 @@ module _ (o : Origin) where
     unfolding readOf writeOf
     given-back-only = Forms3.given-back-only (longForm o) (sound o) read-shows written-shows a b (esr .0) r put
 
-    pub refused-six : isEdition b ≡ true → has o b r ≡ false → readOf o b esr ≡ Read.Refused (OtherEditions (editionsOf o r) (ones (editionsOf o r)))
+    pub refused-six : isEdition b ≡ true → has o b r ≡ false
+        → readOf o b esr ≡ Read.Refused (OtherEditions (editionsOf o r) (ones (editionsOf o r)))
     unfolding readOf writeOf maskOf
     refused-six = Forms3.refused-six (longForm o) (sound o) read-shows written-shows a b (esr .0) r put
 

@@ -36,7 +36,8 @@ module _ (o : Origin) (esr : Esr) (e : ℕ) (is : e < editions) where
     short-everywhere = read-short o e esr (lt-ltb e editions is) u c
 
     -- and so is what no edition has
-    pub none-everywhere : wordIl o (esr .0) ≡ true → maskOf (λ x. makes o x (recordAt (esr .0)) (esr .0)) ≡ 0 → readOf o e esr ≡ Read.Refused NoEdition
+    pub none-everywhere : wordIl o (esr .0) ≡ true → maskOf (λ x. makes o x (recordAt (esr .0)) (esr .0)) ≡ 0
+        → readOf o e esr ≡ Read.Refused NoEdition
     unfolding judgeOf
     none-everywhere l none =
         read-judged o e esr (lt-ltb e editions is) u c l ∙ ap (λ (m : ℕ). readVerdict (recordAt (esr .0)) (judgeOf e m)) none

@@ -34,4 +34,5 @@ module _ (o : Origin) where
   pub carries : (writer reader : ℕ) (r : Record) {c : Carried} → c ≡ carriedOf o writer reader r → Carrying o writer reader r c
   unfolding carriedOf maskOf
   carries writer reader r same =
-      Forms.carrying (longForm o) (sound o) writer reader r Carried.Unwritten asCarried carriedMeans (λ refusal. refl) (λ a. read-shows .same a) same
+      Forms.carrying (longForm o) (sound o) writer reader r Carried.Unwritten asCarried carriedMeans (λ refusal. refl)
+      (λ a. read-shows .same a) same

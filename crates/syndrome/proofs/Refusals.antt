@@ -1,5 +1,5 @@
--- Each refusal exactly. A number comes exactly when its test is the first that fails, 0 exactly when none fails, and 6 names exactly the editions that have the
--- word or record, and their number.
+-- Each refusal exactly. A number comes exactly when its test is the first that fails, 0 exactly when none fails, and 6 names exactly the
+-- editions that have the word or record, and their number.
 -- Assumes nothing.
 use mathlib.Core.Path.{_≡_, refl}
 use mathlib.Core.Bool.{Bool, false}
@@ -35,11 +35,13 @@ module _ (o : Origin) (e : ℕ) (esr : Esr) where
   -- reading's numbers are 0 to 6
   pub read-numbers : readNumbers .number (readOf o e esr) ≤ 6
   read-numbers =
-      Forms.number-is (λ k. k ≤ 6) (readList o e esr) (reads o e esr refl) (lit≤ tt, (lit≤ tt, (lit≤ tt, (lit≤ tt, (lit≤ tt, (lit≤ tt, tt)))))) (lit≤ tt)
+      Forms.number-is (λ k. k ≤ 6) (readList o e esr) (reads o e esr refl)
+      (lit≤ tt, (lit≤ tt, (lit≤ tt, (lit≤ tt, (lit≤ tt, (lit≤ tt, tt)))))) (lit≤ tt)
 
   pub read-six-exactly : (mask count : ℕ)
       → (readOf o e esr ≡ Read.Refused (OtherEditions mask count))
-      ↔ (OthersHave editions (λ x. hasWord o x (esr .0)) e × (mask ≡ maskOf (λ x. hasWord o x (esr .0))) × (count ≡ countBelow editions (λ x. hasWord o x (esr .0))))
+      ↔ (OthersHave editions (λ x. hasWord o x (esr .0)) e × (mask ≡ maskOf (λ x. hasWord o x (esr .0)))
+      × (count ≡ countBelow editions (λ x. hasWord o x (esr .0))))
   unfolding readOf maskOf
   read-six-exactly = Forms.read-six-exactly (longForm o) (sound o) read-shows e (esr .0)
 

@@ -94,10 +94,12 @@ module _ (o : Origin) where
   -- the editions that have a record which makes the word, by the word that is put together
   pub makes-mask : (r : Record) (w : ℕ) → cond (eqb (joinedFrom 0 (fieldsOf r)) w) (editionsOf o r) 0 ≡ maskOf (λ e. makes o e r w)
   unfolding maskOf
-  makes-mask r w = made-mask editions (λ e. has o e r) (joinedFrom 0 (fieldsOf r)) (recordWord r) w (λ e h. joined-record r (has-fits o e r h))
+  makes-mask r w = made-mask editions (λ e. has o e r) (joinedFrom 0 (fieldsOf r)) (recordWord r) w
+      (λ e h. joined-record r (has-fits o e r h))
 
   -- a record that an edition takes is put together into its word
-  pub joined-taken : (e : ℕ) (r : Record) → isEdition e ≡ true → judgeOf e (editionsOf o r) ≡ Verdict.Taken → joinedFrom 0 (fieldsOf r) ≡ recordWord r
+  pub joined-taken : (e : ℕ) (r : Record) → isEdition e ≡ true → judgeOf e (editionsOf o r) ≡ Verdict.Taken
+      → joinedFrom 0 (fieldsOf r) ≡ recordWord r
   unfolding maskOf
   joined-taken e r k t = joined-record r (has-fits o e r (judge-taken editions (λ x. has o x r) e (ltb-true e editions k) t))
 
@@ -112,10 +114,13 @@ module _ (o : Origin) where
     rewritten-refused = again-refused read-shows asWritten (esr .0) (Form.readAs (longForm o) e (esr .0))
 
   module _ (writer reader : ℕ) (r : Record) where
-    pub carried-word : (esr : Esr) → writeOf o writer r ≡ Written.Word esr → carriedOf o writer reader r ≡ asCarried (Form.readBack (longForm o) reader r)
+    pub carried-word : (esr : Esr) → writeOf o writer r ≡ Written.Word esr
+        → carriedOf o writer reader r ≡ asCarried (Form.readBack (longForm o) reader r)
     unfolding writeOf carriedOf
-    carried-word esr = carried-given written-shows Carried.Unwritten asCarried (longForm o) reader r (Form.writeAs (longForm o) writer r) (esr .0)
+    carried-word esr = carried-given written-shows Carried.Unwritten asCarried (longForm o) reader r (Form.writeAs (longForm o) writer r)
+        (esr .0)
 
-    pub carried-unwritten : (refusal : Refusal) → writeOf o writer r ≡ Written.Refused refusal → carriedOf o writer reader r ≡ Carried.Unwritten refusal
+    pub carried-unwritten : (refusal : Refusal) → writeOf o writer r ≡ Written.Refused refusal
+        → carriedOf o writer reader r ≡ Carried.Unwritten refusal
     unfolding writeOf carriedOf
     carried-unwritten = carried-refused written-shows Carried.Unwritten asCarried (longForm o) reader r (Form.writeAs (longForm o) writer r)

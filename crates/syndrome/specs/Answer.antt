@@ -1,4 +1,5 @@
--- The answers of code, and what each means (crate form, specs/Answer.antt): what is given, with 0, or a refusal, with its number, mask and number of ones.
+-- The answers of code, and what each means (crate form, specs/Answer.antt): what is given, with 0, or a refusal, with its number, mask and
+-- number of ones.
 use Prim.Native.Nat.{ℕ}
 use Rattle.form.specs.Answer.{Answer, given, refused}
 use Rattle.form.specs.Promise.{Numbers, numbersOf}

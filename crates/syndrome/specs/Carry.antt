@@ -28,8 +28,8 @@ module _ (o : Origin) where
       Promise writtenNumbers (rewrittenOf e esr) (decide (readList o e esr) 0) (maskOf (λ x. hasWord o x (esr .0)))
       (countBelow editions (λ x. hasWord o x (esr .0)))
 
-  -- DEMAND 3: what the writer's edition puts out, the reader's gives back as that very record exactly when it has it, and otherwise refusal 6
-  -- (1, where the reader's edition is none)
+  -- DEMAND 3: what the writer's edition puts out, the reader's gives back as that very record exactly when it has it, and otherwise refusal
+  -- 6 (1, where the reader's edition is none)
   unfoldable pub carriedOf : ℕ → ℕ → Record → Carried
   carriedOf writer reader r = Form.carriedAs Carried.Unwritten asCarried (longForm o) writer reader r
 
@@ -39,4 +39,5 @@ module _ (o : Origin) where
 
   abbrev pub Carrying : ℕ → ℕ → Record → Carried → Type 0
   Carrying writer reader r =
-      Promise carriedNumbers (carriedOf writer reader r) (carryNumber writer reader r) (editionsOf o r) (countBelow editions (λ x. has o x r))
+      Promise carriedNumbers (carriedOf writer reader r) (carryNumber writer reader r) (editionsOf o r)
+      (countBelow editions (λ x. has o x r))

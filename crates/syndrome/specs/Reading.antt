@@ -35,8 +35,9 @@ module _ (o : Origin) where
       ∷ needs (hasWord e (esr .0)) 6
       ∷ []
 
-  -- THE PROMISE of reading: the answer; its number, that of the first test that fails; and with 6 alone the mask of the editions that have the word, and how
-  -- many they are
+  -- THE PROMISE of reading: the answer; its number, that of the first test that fails; and with 6 alone the mask of the editions that have
+  -- the word, and how many they are
   abbrev pub Reading : ℕ → Esr → Read → Type 0
   Reading e esr =
-      Promise readNumbers (readOf e esr) (decide (readList e esr) 0) (maskOf (λ x. hasWord x (esr .0))) (countBelow editions (λ x. hasWord x (esr .0)))
+      Promise readNumbers (readOf e esr) (decide (readList e esr) 0) (maskOf (λ x. hasWord x (esr .0)))
+      (countBelow editions (λ x. hasWord x (esr .0)))

@@ -1,5 +1,5 @@
--- What reading and writing test before they ask for the edition (01, 'Numbers a call may answer'): of a word its own bits, of a record its class and IL.
--- Which classes there are, and where IL must be 1, goes by the trap's origin (02, C-23).
+-- What reading and writing test before they ask for the edition (01, 'Numbers a call may answer'): of a word its own bits, of a record its
+-- class and IL. Which classes there are, and where IL must be 1, goes by the trap's origin (02, C-23).
 use Prim.Native.Nat.{ℕ}
 use mathlib.Core.Bool.{Bool}
 use mathlib.Core.List.{List, [], _∷_}

@@ -98,8 +98,8 @@ pub fn rewrite(origin: Origin, edition: u32, esr: Esr) -> Written
     }
 }
 
-// Demand 3 beside running code: writes a record in one edition and reads the word in another, from one origin. The very record comes back where the reader's edition has
-// it, else refusal 6.
+// Demand 3 beside running code: writes a record in one edition and reads the word in another, from one origin. The very record comes back
+// where the reader's edition has it, else refusal 6.
 pub fn carry(origin: Origin, writer: u32, reader: u32, r: Record) -> Carried
     ensures { λ c. ⌜ Carrying origin writer reader r c ⌝ }
 {

@@ -52,7 +52,8 @@ appends-fitting {bytes} {before} {at = at} fits a =
     let e : endOf (length before) at (length bytes) ≡ at + length bytes = omega arith in
     let l : length (take at before ++ bytes) ≡ at + length bytes = simp (length-append, length-take) (omega arith) in (
       a .ended ∙ e,
-      rw (a .stored, a .ended, e, sets-eq bytes before at fits) (take-at (take at before ++ bytes) (drop (at + length bytes) before) (at + length bytes) l),
+      rw (a .stored, a .ended, e, sets-eq bytes before at fits)
+          (take-at (take at before ++ bytes) (drop (at + length bytes) before) (at + length bytes) l),
     )
 
 -- the end of a text stays within the buffer

@@ -48,7 +48,8 @@ module _ (o : Origin) (esr : Esr) where
     where
       by : (h f : Bool)
           → Names
-          (decide (needs h (Answer.Refused TrapRefusal.Hpfar) ∷ needs f (Answer.Refused TrapRefusal.Far) ∷ []) (Answer.Shown (trapOf r far hpfar)))
+          (decide (needs h (Answer.Refused TrapRefusal.Hpfar) ∷ needs f (Answer.Refused TrapRefusal.Far) ∷ [])
+          (Answer.Shown (trapOf r far hpfar)))
       by true true = (refl, refl)
       by true false = (refl, refl)
       by false f = (refl, refl)
@@ -69,14 +70,17 @@ module _ (o : Origin) (esr : Esr) where
     unfolding answerRecord
     record-number r =
         decide-relabel numberAnswer
-        (needs (hpfarRight e (addressesOf r) hpfar) (Answer.Refused TrapRefusal.Hpfar) ∷ needs (farRight o (addressesOf r) far) (Answer.Refused TrapRefusal.Far) ∷ [])
+        (needs (hpfarRight e (addressesOf r) hpfar) (Answer.Refused TrapRefusal.Hpfar)
+        ∷ needs (farRight o (addressesOf r) far) (Answer.Refused TrapRefusal.Far) ∷ [])
         (Answer.Shown (trapOf r far hpfar))
 
     answer-number : numberAnswer (answerOf o e esr far hpfar) ≡ decide (trapList o e esr far hpfar) 0
     unfolding answerOf readOf
     answer-number =
-        call-through (λ a. numberAnswer (answerRead o e (asRead a) far hpfar)) editions (λ x. hasWord o x (esr .0)) (readTests o (esr .0)) e (recordAt (esr .0))
-        ∙ ap (decide (relabel refusalNumber (callTests editions (λ x. hasWord o x (esr .0)) (readTests o (esr .0)) e))) (record-number (recordAt (esr .0)))
+        call-through (λ a. numberAnswer (answerRead o e (asRead a) far hpfar)) editions (λ x. hasWord o x (esr .0)) (readTests o (esr .0))
+        e (recordAt (esr .0))
+        ∙ ap (decide (relabel refusalNumber (callTests editions (λ x. hasWord o x (esr .0)) (readTests o (esr .0)) e)))
+        (record-number (recordAt (esr .0)))
 
     pub shows : {a : Answer} → a ≡ answerOf o e esr far hpfar → TrapReading o e esr far hpfar a
     shows same = kept same record { answer = refl; number = answer-number; mask = answer-names .0; count = answer-names .1 }
@@ -94,11 +98,15 @@ refused-number TrapRefusal.Far z = omega (arith, z)
 
 module _ (o : Origin) (first second : ℕ) (esr : Esr) (far : Far) (hpfar : Hpfar) where
   -- the first edition's number, or where it is 0 the second's
-  both-number : (a b : Answer) → numberAnswer a ≡ decide (trapList o first esr far hpfar) 0 → numberAnswer b ≡ decide (trapList o second esr far hpfar) 0
+  both-number : (a b : Answer) → numberAnswer a ≡ decide (trapList o first esr far hpfar) 0
+      → numberAnswer b ≡ decide (trapList o second esr far hpfar) 0
       → numberBoth (bothFrom a b) ≡ decide (trapList o first esr far hpfar) (decide (trapList o second esr far hpfar) 0)
-  both-number (Answer.Shown t) (Answer.Shown s) p q = sym (decide-zero (trapList o first esr far hpfar) (decide (trapList o second esr far hpfar) 0) tt (sym p) ∙ sym q)
-  both-number (Answer.Shown t) (Answer.Refused f) p q = sym (decide-zero (trapList o first esr far hpfar) (decide (trapList o second esr far hpfar) 0) tt (sym p) ∙ sym q)
-  both-number (Answer.Refused f) b p q = p ∙ sym (decide-other (trapList o first esr far hpfar) (decide (trapList o second esr far hpfar) 0) (λ z. refused-number f (p ∙ z)))
+  both-number (Answer.Shown t) (Answer.Shown s) p q = sym
+      (decide-zero (trapList o first esr far hpfar) (decide (trapList o second esr far hpfar) 0) tt (sym p) ∙ sym q)
+  both-number (Answer.Shown t) (Answer.Refused f) p q = sym
+      (decide-zero (trapList o first esr far hpfar) (decide (trapList o second esr far hpfar) 0) tt (sym p) ∙ sym q)
+  both-number (Answer.Refused f) b p q = p ∙ sym (decide-other (trapList o first esr far hpfar)
+      (decide (trapList o second esr far hpfar) 0) (λ z. refused-number f (p ∙ z)))
 
   both-names : (a b : Answer) → TrapReading o first esr far hpfar a → TrapReading o second esr far hpfar b
       → (maskBoth (bothFrom a b) ≡ sixOnly (numberBoth (bothFrom a b)) (maskOf (λ x. hasWord o x (esr .0))))

@@ -1,5 +1,5 @@
--- The whole trap: what is shown holds exactly the addresses that are known, a register that isn't known has no influence, two editions that both show a
--- trap show the same one, and each refusal is given exactly.
+-- The whole trap: what is shown holds exactly the addresses that are known, a register that isn't known has no influence, two editions that
+-- both show a trap show the same one, and each refusal is given exactly.
 -- Assumes nothing.
 use mathlib.Core.Path.{_≡_, refl, _∙_, sym, ap, ap₂}
 use mathlib.Core.Bool.{Bool, true, false, cond, not, _||_, true≢false}
@@ -53,7 +53,8 @@ virtual-in Addresses.None r far hpfar = refl
 virtual-in Addresses.Virtual r far hpfar = refl
 virtual-in (Addresses.Abort fnv s1ptw code) r far hpfar = refl
 
-intermediate-in : (a : Addresses) (r : Record) (far : Far) (hpfar : Hpfar) → intermediateIn (trapFrom a r far hpfar) ≡ intermediateOf a far hpfar
+intermediate-in : (a : Addresses) (r : Record) (far : Far) (hpfar : Hpfar)
+    → intermediateIn (trapFrom a r far hpfar) ≡ intermediateOf a far hpfar
 intermediate-in Addresses.None r far hpfar = refl
 intermediate-in Addresses.Virtual r far hpfar = refl
 intermediate-in (Addresses.Abort fnv s1ptw code) r far hpfar = refl
@@ -78,7 +79,8 @@ module _ (o : Origin) where
     at-read is = ap (λ (x : Read). answerRead o e x far hpfar) is
 
     tested : (r : Record) (t : Trap) (h f : Bool)
-        → decide (needs h (Answer.Refused TrapRefusal.Hpfar) ∷ needs f (Answer.Refused TrapRefusal.Far) ∷ []) (Answer.Shown (trapOf r far hpfar)) ≡ Answer.Shown t
+        → decide (needs h (Answer.Refused TrapRefusal.Hpfar) ∷ needs f (Answer.Refused TrapRefusal.Far) ∷ [])
+        (Answer.Shown (trapOf r far hpfar)) ≡ Answer.Shown t
         → (h ≡ true) × (f ≡ true) × (trapOf r far hpfar ≡ t)
     tested r t true true q = (refl, refl, cc)
     tested r t true false q = absurd-answer (cc q)
@@ -99,7 +101,8 @@ module _ (o : Origin) where
     by-shown t x =
         at-read (x .taken)
         ∙ ap₂
-        (λ (h f : Bool). decide (needs h (Answer.Refused TrapRefusal.Hpfar) ∷ needs f (Answer.Refused TrapRefusal.Far) ∷ []) (Answer.Shown (trapOf (x .syndrome) far hpfar)))
+        (λ (h f : Bool). decide (needs h (Answer.Refused TrapRefusal.Hpfar) ∷ needs f (Answer.Refused TrapRefusal.Far) ∷ [])
+        (Answer.Shown (trapOf (x .syndrome) far hpfar)))
         (x .hpfar-right) (x .far-right)
         ∙ ap Answer.Shown (x .trap)
 
@@ -107,14 +110,15 @@ module _ (o : Origin) where
     pub shown-exactly : (t : Trap) → (answerOf o e esr far hpfar ≡ Answer.Shown t) ↔ ShownBy e esr far hpfar t
     shown-exactly t = (shown-by t, by-shown t)
 
-    -- WHAT IS SHOWN: the record that the syndrome reader takes; FAR exactly where it counts; and where HPFAR counts the page, alone with S1PTW 1, and with FAR
-    -- bits 11:0 otherwise, and nothing where it doesn't
+    -- WHAT IS SHOWN: the record that the syndrome reader takes; FAR exactly where it counts; and where HPFAR counts the page, alone with
+    -- S1PTW 1, and with FAR bits 11:0 otherwise, and nothing where it doesn't
     pub shown-holds : (t : Trap) (r : Record) → answerOf o e esr far hpfar ≡ Answer.Shown t → readOf o e esr ≡ Read.Taken r
         → (recordIn t ≡ r)
         × (virtualIn t ≡ cond (farCounts (addressesOf r)) (VirtualAddress.Known (far .0)) VirtualAddress.Unknown)
         × (hpfarCounts (addressesOf r) ≡ true
         → intermediateIn t
-        ≡ cond (walked (addressesOf r)) (IntermediateAddress.Page (pageAddress hpfar)) (IntermediateAddress.Byte (pageAddress hpfar + fieldOf (far .0) 11 0)))
+        ≡ cond (walked (addressesOf r)) (IntermediateAddress.Page (pageAddress hpfar))
+        (IntermediateAddress.Byte (pageAddress hpfar + fieldOf (far .0) 11 0)))
         × (hpfarCounts (addressesOf r) ≡ false → intermediateIn t ≡ IntermediateAddress.None)
     shown-holds t r shown is =
         let x = shown-by t shown in
@@ -136,20 +140,24 @@ module _ (o : Origin) where
     refused-alike refusal = (λ t. by (readOf o e esr) refl t, λ is. at-read is)
       where
         none : (r : Record) (h f : Bool)
-            → decide (needs h (Answer.Refused TrapRefusal.Hpfar) ∷ needs f (Answer.Refused TrapRefusal.Far) ∷ []) (Answer.Shown (trapOf r far hpfar))
+            → decide (needs h (Answer.Refused TrapRefusal.Hpfar) ∷ needs f (Answer.Refused TrapRefusal.Far) ∷ [])
+            (Answer.Shown (trapOf r far hpfar))
             ≡ Answer.Refused (TrapRefusal.Syndrome refusal) → ⊥
         none r true true q = absurd-answer (cc q)
         none r true false q = absurd-answer (cc q)
         none r false f q = absurd-answer (cc q)
 
-        by : (a : Read) → readOf o e esr ≡ a → answerOf o e esr far hpfar ≡ Answer.Refused (TrapRefusal.Syndrome refusal) → readOf o e esr ≡ Read.Refused refusal
-        by (Read.Taken r) is t = absurd (none r (hpfarRight e (addressesOf r) hpfar) (farRight o (addressesOf r) far) (sym (at-read is) ∙ t))
+        by : (a : Read) → readOf o e esr ≡ a → answerOf o e esr far hpfar ≡ Answer.Refused (TrapRefusal.Syndrome refusal)
+            → readOf o e esr ≡ Read.Refused refusal
+        by (Read.Taken r) is t = absurd (none r (hpfarRight e (addressesOf r) hpfar) (farRight o (addressesOf r) far)
+            (sym (at-read is) ∙ t))
         by (Read.Refused f) is t = cc (at-read is, t, is)
 
     -- refusal 6 exactly, whatever the two address registers hold
     pub trap-six-exactly : (mask count : ℕ)
         → (answerOf o e esr far hpfar ≡ Answer.Refused (TrapRefusal.Syndrome (OtherEditions mask count)))
-        ↔ (OthersHave editions (λ x. hasWord o x (esr .0)) e × (mask ≡ maskOf (λ x. hasWord o x (esr .0))) × (count ≡ countBelow editions (λ x. hasWord o x (esr .0))))
+        ↔ (OthersHave editions (λ x. hasWord o x (esr .0)) e × (mask ≡ maskOf (λ x. hasWord o x (esr .0)))
+        × (count ≡ countBelow editions (λ x. hasWord o x (esr .0))))
     trap-six-exactly mask count =
         let alike = refused-alike (OtherEditions mask count) in
         let six = read-six-exactly o e esr mask count in
@@ -167,12 +175,15 @@ module _ (o : Origin) where
   -- ---- registers that don't count
 
   module _ (e : ℕ) (r : Record) where
-    record-hpfar : (far : Far) (one other : Hpfar) → hpfarCounts (addressesOf r) ≡ false → answerRecord o e r far one ≡ answerRecord o e r far other
+    record-hpfar : (far : Far) (one other : Hpfar) → hpfarCounts (addressesOf r) ≡ false
+        → answerRecord o e r far one ≡ answerRecord o e r far other
     unfolding answerRecord
     record-hpfar far one other h =
         ap₂
-        (λ (b : Bool) (t : Trap). decide (needs b (Answer.Refused TrapRefusal.Hpfar) ∷ needs (farRight o (addressesOf r) far) (Answer.Refused TrapRefusal.Far) ∷ []) (Answer.Shown t))
-        (free (hpfarCounts (addressesOf r)) (hpfarRule e one) h ∙ sym (free (hpfarCounts (addressesOf r)) (hpfarRule e other) h)) (by (addressesOf r) h)
+        (λ (b : Bool) (t : Trap). decide (needs b (Answer.Refused TrapRefusal.Hpfar)
+        ∷ needs (farRight o (addressesOf r) far) (Answer.Refused TrapRefusal.Far) ∷ []) (Answer.Shown t))
+        (free (hpfarCounts (addressesOf r)) (hpfarRule e one) h ∙ sym (free (hpfarCounts (addressesOf r)) (hpfarRule e other) h))
+        (by (addressesOf r) h)
       where
         by : (a : Addresses) → hpfarCounts a ≡ false → trapFrom a r far one ≡ trapFrom a r far other
         by Addresses.None k = refl
@@ -182,12 +193,15 @@ module _ (o : Origin) where
             ap (λ (i : IntermediateAddress). Trap.Abort record { syndrome = r; address = virtualOf a far; intermediate = i })
             (intermediate-hidden a far one k ∙ sym (intermediate-hidden a far other k))
 
-    record-far : (one other : Far) (hpfar : Hpfar) → farCounts (addressesOf r) ≡ false → answerRecord o e r one hpfar ≡ answerRecord o e r other hpfar
+    record-far : (one other : Far) (hpfar : Hpfar) → farCounts (addressesOf r) ≡ false
+        → answerRecord o e r one hpfar ≡ answerRecord o e r other hpfar
     unfolding answerRecord
     record-far one other hpfar h =
         ap₂
-        (λ (b : Bool) (t : Trap). decide (needs (hpfarRight e (addressesOf r) hpfar) (Answer.Refused TrapRefusal.Hpfar) ∷ needs b (Answer.Refused TrapRefusal.Far) ∷ []) (Answer.Shown t))
-        (free (farCounts (addressesOf r)) (farRule o one) h ∙ sym (free (farCounts (addressesOf r)) (farRule o other) h)) (by (addressesOf r) h)
+        (λ (b : Bool) (t : Trap). decide (needs (hpfarRight e (addressesOf r) hpfar) (Answer.Refused TrapRefusal.Hpfar)
+        ∷ needs b (Answer.Refused TrapRefusal.Far) ∷ []) (Answer.Shown t))
+        (free (farCounts (addressesOf r)) (farRule o one) h ∙ sym (free (farCounts (addressesOf r)) (farRule o other) h))
+        (by (addressesOf r) h)
       where
         by : (a : Addresses) → farCounts a ≡ false → trapFrom a r one hpfar ≡ trapFrom a r other hpfar
         by Addresses.None k = refl
@@ -206,20 +220,24 @@ module _ (o : Origin) where
   LeavesOut counts e esr = (r : Record) → readOf o e esr ≡ Read.Taken r → counts (addressesOf r) ≡ false
 
   -- HPFAR isn't known: it has no influence on the answer
-  pub hpfar-ignored : (e : ℕ) (esr : Esr) (far : Far) (one other : Hpfar) → LeavesOut hpfarCounts e esr → answerOf o e esr far one ≡ answerOf o e esr far other
+  pub hpfar-ignored : (e : ℕ) (esr : Esr) (far : Far) (one other : Hpfar) → LeavesOut hpfarCounts e esr
+      → answerOf o e esr far one ≡ answerOf o e esr far other
   unfolding answerOf
   hpfar-ignored e esr far one other out = by (readOf o e esr) out
     where
-      by : (a : Read) → ((r : Record) → a ≡ Read.Taken r → hpfarCounts (addressesOf r) ≡ false) → answerRead o e a far one ≡ answerRead o e a far other
+      by : (a : Read) → ((r : Record) → a ≡ Read.Taken r → hpfarCounts (addressesOf r) ≡ false)
+          → answerRead o e a far one ≡ answerRead o e a far other
       by (Read.Taken r) h = record-hpfar e r far one other (h r refl)
       by (Read.Refused f) h = refl
 
   -- FAR isn't known: it has no influence on the answer
-  pub far-ignored : (e : ℕ) (esr : Esr) (one other : Far) (hpfar : Hpfar) → LeavesOut farCounts e esr → answerOf o e esr one hpfar ≡ answerOf o e esr other hpfar
+  pub far-ignored : (e : ℕ) (esr : Esr) (one other : Far) (hpfar : Hpfar) → LeavesOut farCounts e esr
+      → answerOf o e esr one hpfar ≡ answerOf o e esr other hpfar
   unfolding answerOf
   far-ignored e esr one other hpfar out = by (readOf o e esr) out
     where
-      by : (a : Read) → ((r : Record) → a ≡ Read.Taken r → farCounts (addressesOf r) ≡ false) → answerRead o e a one hpfar ≡ answerRead o e a other hpfar
+      by : (a : Read) → ((r : Record) → a ≡ Read.Taken r → farCounts (addressesOf r) ≡ false)
+          → answerRead o e a one hpfar ≡ answerRead o e a other hpfar
       by (Read.Taken r) h = record-far e r one other hpfar (h r refl)
       by (Read.Refused f) h = refl
 

@@ -56,8 +56,8 @@ module _ (o : Origin) where
       readList o e esr
       ++ (needs (hpfarRight e (addressesOf (recordAt (esr .0))) hpfar) 7 ∷ needs (farRight (addressesOf (recordAt (esr .0))) far) 8 ∷ [])
 
-  -- THE PROMISE of reading a trap: the answer; its number, that of the first test that fails; and with 6 alone the mask of the editions that have the word, and
-  -- how many they are
+  -- THE PROMISE of reading a trap: the answer; its number, that of the first test that fails; and with 6 alone the mask of the editions
+  -- that have the word, and how many they are
   abbrev pub TrapReading : ℕ → Esr → Far → Hpfar → Answer → Type 0
   TrapReading e esr far hpfar =
       Promise answerNumbers (answerOf e esr far hpfar) (decide (trapList e esr far hpfar) 0) (maskOf (λ x. hasWord o x (esr .0)))

@@ -1,5 +1,5 @@
--- The rules that go by the trap's origin, as they stood before request C-23 (01, 'Layout of the word' and 'Addresses of an abort'; 02, C-13 and C-20). The laws of
--- proofs/AArch32.antt say that from AArch32 what holds now is what held then.
+-- The rules that go by the trap's origin, as they stood before request C-23 (01, 'Layout of the word' and 'Addresses of an abort'; 02, C-13
+-- and C-20). The laws of proofs/AArch32.antt say that from AArch32 what holds now is what held then.
 use Prim.Native.Nat.{ℕ}
 use mathlib.Core.Bool.{Bool, true, false, not, _&&_, _||_}
 use mathlib.Core.List.{List, [], _∷_}

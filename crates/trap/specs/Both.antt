@@ -26,5 +26,6 @@ module _ (o : Origin) where
   -- the number: the first edition's tests, then the second's
   abbrev pub BothReading : ℕ → ℕ → Esr → Far → Hpfar → Both → Type 0
   BothReading first second esr far hpfar =
-      Promise bothNumbers (bothOf first second esr far hpfar) (decide (trapList o first esr far hpfar) (decide (trapList o second esr far hpfar) 0))
+      Promise bothNumbers (bothOf first second esr far hpfar)
+      (decide (trapList o first esr far hpfar) (decide (trapList o second esr far hpfar) 0))
       (maskOf (λ x. hasWord o x (esr .0))) (countBelow editions (λ x. hasWord o x (esr .0)))

@@ -1,4 +1,5 @@
--- The paper's number, mask and number of ones of each answer (01, 'Numbers a call may answer'): 0, 0, 0 where a trap is shown, else the refusal's.
+-- The paper's number, mask and number of ones of each answer (01, 'Numbers a call may answer'): 0, 0, 0 where a trap is shown, else the
+-- refusal's.
 use Prim.Native.Nat.{ℕ}
 use Rattle.edition.specs.Judge.{refusalNumber, refusalMask, refusalCount}
 use Rattle.form.specs.Promise.{Numbers}

@@ -1,4 +1,5 @@
--- The trap of a record (01, 'Addresses of an abort'): the record, the virtual address if known, and for an abort its address answer. The edition has no part in it.
+-- The trap of a record (01, 'Addresses of an abort'): the record, the virtual address if known, and for an abort its address answer. The
+-- edition has no part in it.
 use Rattle.record.specs.Addresses.{addressesOf}
 use Rattle.record.specs.declared.kinds.Addresses.{Addresses}
 use Rattle.record.specs.declared.kinds.Record.{Record}

@@ -1,5 +1,5 @@
--- The whole trap's answer in one edition, as a line: the addresses that are known, or the refusal's number, mask and number of ones. And a trap
--- as its lines: its registers, and its answer in each edition of a mask. A log holds traps from AArch32 (02, C-23).
+-- The whole trap's answer in one edition, as a line: the addresses that are known, or the refusal's number, mask and number of ones. And a
+-- trap as its lines: its registers, and its answer in each edition of a mask. A log holds traps from AArch32 (02, C-23).
 use Prim.Native.Nat.{ℕ, zero, suc}
 use mathlib.Core.Bool.{cond}
 use mathlib.Core.List.{List, [], _++_}
@@ -40,7 +40,8 @@ answerText (Answer.Shown t) = takenText t
 answerText (Answer.Refused r) = refusalText r
 
 abbrev pub shownText : ℕ → Esr → Far → Hpfar → List ℕ
-shownText edition esr far hpfar = ascii "in" ++ decimalField edition ++ answerText (answerOf Origin.AArch32 edition esr far hpfar) ++ ascii "\n"
+shownText edition esr far hpfar = ascii "in" ++ decimalField edition ++ answerText (answerOf Origin.AArch32 edition esr far hpfar)
+    ++ ascii "\n"
 
 -- the lines of the editions below n that are in a mask, each once and in ascending order
 unfoldable pub linesBelow : ℕ → ℕ → (ℕ → List ℕ) → List ℕ

@@ -1,11 +1,12 @@
-// The whole trap's answer in an edition as a line of text, and a trap as its lines in several editions, appended to a buffer as `text::append`
-// does.
+// The whole trap's answer in an edition as a line of text, and a trap as its lines in several editions, appended to a buffer as
+// `text::append` does.
 ghost use mathlib.Core.Bool.{cond};
 ghost use mathlib.Core.List.{[]};
 ghost use Rattle.bits.specs.Field.{bitOf};
 ghost use Rattle.edition.specs.Feature.{editions};
 ghost use Rattle.text.specs.Append.{Appends};
-ghost use Rattle.trap_text.specs.Shown.{virtualText, intermediateText, takenText, refusalText, answerText, shownText, linesBelow, trapText};
+ghost use Rattle.trap_text.specs.Shown.{virtualText, intermediateText, takenText, refusalText, answerText, shownText, linesBelow};
+ghost use Rattle.trap_text.specs.Shown.{trapText};
 use address::Far;
 use address::Hpfar;
 use address::IntermediateAddress;

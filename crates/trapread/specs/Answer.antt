@@ -16,7 +16,8 @@ fieldText n = ascii " " ++ decimalText n
 -- a refusal's number, mask and number of ones
 abbrev pub refusedText : Refusal → List ℕ
 refusedText refusal =
-    ascii "refused" ++ fieldText (refusalNumber refusal) ++ fieldText (refusalMask refusal) ++ fieldText (refusalCount refusal) ++ ascii "\n"
+    ascii "refused" ++ fieldText (refusalNumber refusal) ++ fieldText (refusalMask refusal) ++ fieldText (refusalCount refusal)
+    ++ ascii "\n"
 
 abbrev pub readText : Read → List ℕ
 readText (Read.Taken r) = ascii "taken\n"

@@ -1,4 +1,5 @@
-// Reads lines from standard input, each an edition and a syndrome word, and writes what reading the word in that edition answers, of a trap from AArch32.
+// Reads lines from standard input, each an edition and a syndrome word, and writes what reading the word in that edition answers, of a trap
+// from AArch32.
 //
 // Input and lines may have any length: a chunk of the input is held at a time, and of a line what `line` keeps of it. The answers to a
 // chunk are written before the next one is read.

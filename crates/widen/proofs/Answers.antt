@@ -34,10 +34,12 @@ not-empty : (n : ℕ) (test : ℕ → Bool) → OneHas n test → eqb (maskBelow
 not-empty n test found = ne-eqb _ _ (λ z. true≢false (sym (found .2) ∙ mask-zero n test z (found .0) (found .1)))
 
 module _ (mode : ℕ) (r : Short) where
-  -- what the change asks for: an accepted mode, a record that some short edition has, no known register 15, and a result that some long edition has
+  -- what the change asks for: an accepted mode, a record that some short edition has, no known register 15, and a result that some long
+  -- edition has
   abbrev pub Allowed : Type 0
   Allowed =
-      (isMode mode ≡ true) × OneHas shortCount (λ e. shortHas e r) × (usesPc r ≡ false) × OneHas longCount (λ e. longHas Origin.AArch32 e (longOf mode r))
+      (isMode mode ≡ true) × OneHas shortCount (λ e. shortHas e r) × (usesPc r ≡ false)
+      × OneHas longCount (λ e. longHas Origin.AArch32 e (longOf mode r))
 
   given : Allowed → widenOf mode r ≡ Widened.Long (longOf mode r)
   unfolding shortMask longMask
@@ -47,7 +49,8 @@ module _ (mode : ℕ) (r : Short) where
 
   asked : (l : Long) → widenOf mode r ≡ Widened.Long l → Allowed
   unfolding shortMask longMask
-  asked l t = by (isMode mode) refl (eqb (shortEditions r) 0) refl (usesPc r) refl (eqb (longEditions Origin.AArch32 (longOf mode r)) 0) refl
+  asked l t = by (isMode mode) refl (eqb (shortEditions r) 0) refl (usesPc r) refl (eqb (longEditions Origin.AArch32 (longOf mode r)) 0)
+      refl
     where
       by : (k : Bool) → isMode mode ≡ k → (s : Bool) → eqb (shortEditions r) 0 ≡ s → (p : Bool) → usesPc r ≡ p → (n : Bool)
           → eqb (longEditions Origin.AArch32 (longOf mode r)) 0 ≡ n → Allowed

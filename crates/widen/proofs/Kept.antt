@@ -1,5 +1,5 @@
--- What the change keeps, for every mode number and record: the class, every field that isn't a register, and an UNKNOWN Rn; and what a mapped register is.
--- Assumes nothing.
+-- What the change keeps, for every mode number and record: the class, every field that isn't a register, and an UNKNOWN Rn; and what a
+-- mapped register is. Assumes nothing.
 use mathlib.Core.Path.{_≡_, refl, _∙_, sym, ap, ap₂}
 use mathlib.Core.Bool.{Bool, true, false, cond, _&&_}
 use Prim.Native.Nat.{ℕ, _≤_, _<_}

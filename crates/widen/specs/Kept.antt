@@ -1,5 +1,5 @@
--- The fields that both forms have and that are no registers, in the order of the word: what the change keeps. An UNKNOWN IL counts as 1, and FnV of a short data abort
--- is bits 11:10.
+-- The fields that both forms have and that are no registers, in the order of the word: what the change keeps. An UNKNOWN IL counts as 1,
+-- and FnV of a short data abort is bits 11:10.
 use Prim.Native.Nat.{ℕ}
 use mathlib.Core.Bool.{_||_}
 use mathlib.Core.List.{List, [], _∷_}
@@ -22,7 +22,8 @@ shortKept (Short.Call r) = r .class ∷ digit (r .il) ∷ r .imm16 ∷ []
 shortKept (Short.Smc r) = digit (r .il) ∷ digit (r .cv) ∷ r .cond ∷ digit (r .ccknownpass) ∷ []
 shortKept (Short.InstructionAbort r) = digit (r .il) ∷ digit (r .fnv) ∷ digit (r .ea) ∷ digit (r .s1ptw) ∷ r .code ∷ []
 shortKept (Short.DataAbort r) =
-    digit (r .il) ∷ digit (r .isv) ∷ r .sas ∷ digit (r .sse) ∷ digit (r .ar) ∷ digit (eqb (r .aet) 1) ∷ digit (r .ea) ∷ digit (r .cm) ∷ digit (r .s1ptw)
+    digit (r .il) ∷ digit (r .isv) ∷ r .sas ∷ digit (r .sse) ∷ digit (r .ar) ∷ digit (eqb (r .aet) 1) ∷ digit (r .ea) ∷ digit (r .cm)
+    ∷ digit (r .s1ptw)
     ∷ digit (r .wnr) ∷ r .code ∷ []
 
 abbrev pub longKept : Long → List ℕ
@@ -38,7 +39,8 @@ longKept (Long.Call r) = r .class ∷ digit (r .il) ∷ r .imm16 ∷ []
 longKept (Long.Smc r) = digit (r .il) ∷ digit (r .cv) ∷ r .cond ∷ digit (r .ccknownpass) ∷ []
 longKept (Long.InstructionAbort r) = digit (r .il) ∷ digit (r .fnv) ∷ digit (r .ea) ∷ digit (r .s1ptw) ∷ r .code ∷ []
 longKept (Long.DataAbort r) =
-    digit (r .il) ∷ digit (r .isv) ∷ r .sas ∷ digit (r .sse) ∷ digit (r .ar) ∷ digit (r .fnv) ∷ digit (r .ea) ∷ digit (r .cm) ∷ digit (r .s1ptw)
+    digit (r .il) ∷ digit (r .isv) ∷ r .sas ∷ digit (r .sse) ∷ digit (r .ar) ∷ digit (r .fnv) ∷ digit (r .ea) ∷ digit (r .cm)
+    ∷ digit (r .s1ptw)
     ∷ digit (r .wnr) ∷ r .code ∷ []
 longKept (Long.Debug r) = []
 longKept (Long.Step r) = []

@@ -1,5 +1,5 @@
--- The long record of a short one, before any test (request C-11 of document 02): its registers are mapped, an UNKNOWN IL is 1, class 0x07 loses TA and coproc, and what
--- the short form lacks, SET and SF, is 0. Every other field stays.
+-- The long record of a short one, before any test (request C-11 of document 02): its registers are mapped, an UNKNOWN IL is 1, class 0x07
+-- loses TA and coproc, and what the short form lacks, SET and SF, is 0. Every other field stays.
 use Prim.Native.Nat.{ℕ}
 use mathlib.Core.Bool.{false, _||_}
 use lib.Dec.{eqb}

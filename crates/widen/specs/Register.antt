@@ -1,4 +1,5 @@
--- The registers of a short record (request C-11 of document 02): those of the guest's mode, in the AArch64 numbering by the manual's mapping.
+-- The registers of a short record (request C-11 of document 02): those of the guest's mode, in the AArch64 numbering by the manual's
+-- mapping.
 use Prim.Native.Nat.{ℕ}
 use mathlib.Core.Bool.{Bool, false, cond, not, _&&_, _||_}
 use lib.Dec.{eqb}

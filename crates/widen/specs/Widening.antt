@@ -1,5 +1,5 @@
--- The change of a short record to a long one (request C-11 of document 02): 9 for a mode that 01 doesn't accept, first; then 5 for a record that no short edition has,
--- for a known register 15, or for a result that no long edition has; else the long record.
+-- The change of a short record to a long one (request C-11 of document 02): 9 for a mode that 01 doesn't accept, first; then 5 for a record
+-- that no short edition has, for a known register 15, or for a result that no long edition has; else the long record.
 use Prim.Native.Nat.{ℕ}
 use mathlib.Core.Path.{_≡_}
 use mathlib.Core.Bool.{Bool, not}

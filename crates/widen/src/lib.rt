@@ -1,4 +1,5 @@
-// The change of a record of the short form to one of the long form: registers of the guest's mode become registers in the AArch64 numbering.
+// The change of a record of the short form to one of the long form: registers of the guest's mode become registers in the AArch64
+// numbering.
 ghost use mathlib.Core.Path.{_≡_};
 ghost use Rattle.widen.specs.Register.{mapped, base, usesPc};
 ghost use Rattle.widen.specs.Long.{longPlain, longMcr, longMcrr, longLdc, longSimd, longInstructionAbort, longDataAbort, longOf};

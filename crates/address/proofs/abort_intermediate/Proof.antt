@@ -17,11 +17,13 @@ use Rattle.address.proofs.abort_intermediate.Tie as tie
 
 -- the answer by its two tests
 by-tests : (s1ptw : Bool) (code : ℕ) (far : Far) (hpfar : Hpfar) {known walk : Bool} → intermediateKnown s1ptw code ≡ known → s1ptw ≡ walk
-    → cond known (cond walk (IntermediateAddress.Page (pageAddress hpfar)) (IntermediateAddress.Byte (pageAddress hpfar + fieldOf (far .0) 11 0))) IntermediateAddress.None
+    → cond known (cond walk (IntermediateAddress.Page (pageAddress hpfar))
+    (IntermediateAddress.Byte (pageAddress hpfar + fieldOf (far .0) 11 0))) IntermediateAddress.None
     ≡ abortIntermediate s1ptw code far hpfar
 by-tests s1ptw code far hpfar k w =
     sym (ap₂
-    (λ (known walk : Bool). cond known (cond walk (IntermediateAddress.Page (pageAddress hpfar)) (IntermediateAddress.Byte (pageAddress hpfar + fieldOf (far .0) 11 0))) IntermediateAddress.None)
+    (λ (known walk : Bool). cond known (cond walk (IntermediateAddress.Page (pageAddress hpfar))
+    (IntermediateAddress.Byte (pageAddress hpfar + fieldOf (far .0) 11 0))) IntermediateAddress.None)
     k w)
 
 intermediate-known-requires : tie.Need-intermediate-known-requires
@@ -44,14 +46,16 @@ returns-2 c =
     let at = c .before .before in
     let a = at .before .before .args in
     ap IntermediateAddress.Page (c .before .page-address .ensures)
-    ∙ by-tests (a .s1ptw) (a .code) (a .far) (a .hpfar) (sym (at .before .intermediate-known .ensures) ∙ not-false _ (at .if1 .left)) (c .if2 .taken)
+    ∙ by-tests (a .s1ptw) (a .code) (a .far) (a .hpfar) (sym (at .before .intermediate-known .ensures) ∙ not-false _ (at .if1 .left))
+    (c .if2 .taken)
 
 returns-3 : tie.Need-returns-3
 returns-3 c =
     let at = c .before .before .before in
     let a = at .before .before .args in
     ap₂ (λ (page offset : ℕ). IntermediateAddress.Byte (page + offset)) (c .before .before .page-address .ensures) (c .field .ensures)
-    ∙ by-tests (a .s1ptw) (a .code) (a .far) (a .hpfar) (sym (at .before .intermediate-known .ensures) ∙ not-false _ (at .if1 .left)) (c .before .if2 .left)
+    ∙ by-tests (a .s1ptw) (a .code) (a .far) (a .hpfar) (sym (at .before .intermediate-known .ensures) ∙ not-false _ (at .if1 .left))
+    (c .before .if2 .left)
 
 pub abort-intermediate-spec : {M : Type 1} → statement M
 abort-intermediate-spec =

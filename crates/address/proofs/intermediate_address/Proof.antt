@@ -26,7 +26,8 @@ returns-2 : tie.Need-returns-2
 returns-2 c = search needs
 
 returns-3 : tie.Need-returns-3
-returns-3 c = at-arm (λ a. intermediateOf a (c .before .before .before .before .args .far) (c .before .before .before .before .args .hpfar)) (c .abort-intermediate .ensures) (c .before .before .a .given .1)
+returns-3 c = at-arm (λ a. intermediateOf a (c .before .before .before .before .args .far)
+    (c .before .before .before .before .args .hpfar)) (c .abort-intermediate .ensures) (c .before .before .a .given .1)
 
 pub intermediate-address-spec : {M : Type 1} → statement M
 intermediate-address-spec =

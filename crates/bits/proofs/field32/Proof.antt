@@ -21,7 +21,10 @@ field-requires c κs = search needs
 cast-result : tie.Need-cast-result
 cast-result c =
     let a = c .before .before .before .args in
-    record { fits = subst (λ (n : ℕ). n < 2 ^ 32) (sym (c .field .ensures)) (field-below (a .word) (c .before .least .result) (a .low) 32 (omega (arith, c .before .least .ensures))) }
+    record {
+      fits = subst (λ (n : ℕ). n < 2 ^ 32) (sym (c .field .ensures))
+          (field-below (a .word) (c .before .least .result) (a .low) 32 (omega (arith, c .before .least .ensures)));
+    }
 
 returns : tie.Need-returns
 returns c =

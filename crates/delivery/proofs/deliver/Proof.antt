@@ -23,19 +23,23 @@ use Rattle.delivery.proofs.deliver.Statement.{statement}
 use Rattle.delivery.proofs.deliver.Tie as tie
 
 -- past the first test
-passed-sound : (c : tie.Else1) → sound (c .before .before .before .args .state .marks) (c .before .before .before .args .state .status) ≡ true
+passed-sound : (c : tie.Else1) → sound (c .before .before .before .args .state .marks) (c .before .before .before .args .state .status)
+    ≡ true
 passed-sound c = sym (c .before .sound .ensures) ∙ not-false _ (c .if1 .left)
 
 -- past both, with the choice in hand
 settled : (c : tie.After-next) {x : Choice} → c .next .result ≡ x
-    → deliverTo guestDelivery (listOf (c .before .before .before .before .before .before .before .args .queue)) (c .before .before .before .before .before .before .before .args .state) (choiceOf x)
-    ≡ stepOf guestDelivery (listOf (c .before .before .before .before .before .before .before .args .queue)) (c .before .before .before .before .before .before .before .args .state)
+    → deliverTo guestDelivery (listOf (c .before .before .before .before .before .before .before .args .queue))
+    (c .before .before .before .before .before .before .before .args .state) (choiceOf x)
+    ≡ stepOf guestDelivery (listOf (c .before .before .before .before .before .before .before .args .queue))
+    (c .before .before .before .before .before .before .before .args .state)
 settled c e =
     let tested = c .before .before in
     let start = tested .before .before .before .before .before in
     passed (start .args .queue) (start .args .state) (passed-sound (tested .before .before))
     (sym (tested .before .aligned .ensures) ∙ not-false _ (tested .if2 .left))
-    (ap (λ (m : Masks). chosen (maskIn m) (listOf (start .args .queue))) (sym (c .before .masks-of .ensures)) ∙ sym (c .next .ensures) ∙ ap choiceOf e)
+    (ap (λ (m : Masks). chosen (maskIn m) (listOf (start .args .queue))) (sym (c .before .masks-of .ensures)) ∙ sym (c .next .ensures)
+    ∙ ap choiceOf e)
 
 -- a step that moved nothing promises what the plain queue's step says of it
 nothing-moved : (q : Queue) (s : Guest) (a : Answer) {r : Delivered} → r ≡ record { outcome = record { answer = a; queue = q }; state = s }

@@ -20,7 +20,8 @@ returns : tie.Need-returns
 returns c =
     let start = c .before .before .before .before in
     c .enter .ensures
-    ∙ ap₂ (λ (row : Row) (faults : FaultRegisters). entered (start .args .state) row faults) (c .before .delivery-row .ensures) (c .before .before .faults-after .ensures)
+    ∙ ap₂ (λ (row : Row) (faults : FaultRegisters). entered (start .args .state) row faults) (c .before .delivery-row .ensures)
+    (c .before .before .faults-after .ensures)
 
 pub delivered-in-spec : {M : Type 1} → statement M
 delivered-in-spec =

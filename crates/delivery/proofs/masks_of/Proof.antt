@@ -7,7 +7,8 @@ use Rattle.delivery.proofs.masks_of.Statement.{statement}
 use Rattle.delivery.proofs.masks_of.Tie as tie
 
 -- masks that are equal bit by bit
-masks : {a a′ f f′ i i′ : Bool} → a ≡ a′ → f ≡ f′ → i ≡ i′ → _≡_ {A = Masks} record { a = a; f = f; i = i } record { a = a′; f = f′; i = i′ }
+masks : {a a′ f f′ i i′ : Bool} → a ≡ a′ → f ≡ f′ → i ≡ i′
+    → _≡_ {A = Masks} record { a = a; f = f; i = i } record { a = a′; f = f′; i = i′ }
 masks {a′ = a′} {f′ = f′} {i} p q r =
     ap₂ (λ (x y : Bool). record { a = x; f = y; i = i }) p q ∙ ap (λ (x : Bool). record { a = a′; f = f′; i = x }) r
 

@@ -1,4 +1,5 @@
--- `fault::asynchronous_dfsr` meets its contract: the row of an asynchronous external abort, put in its place by the function that makes every DFSR.
+-- `fault::asynchronous_dfsr` meets its contract: the row of an asynchronous external abort, put in its place by the function that makes
+-- every DFSR.
 use mathlib.Core.Path.{ap, _∙_}
 use borrow.Author.Needs.{needs}
 use Rattle.fault.specs.Fault.{codeIn}

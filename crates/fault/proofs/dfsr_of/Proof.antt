@@ -1,4 +1,5 @@
--- `fault::dfsr_of` meets its contract: the domain stands between FS bit 4 and FS 3:0, and the word so far ends below bit 11, so that `|` adds each.
+-- `fault::dfsr_of` meets its contract: the domain stands between FS bit 4 and FS 3:0, and the word so far ends below bit 11, so that `|`
+-- adds each.
 use mathlib.Core.Path.{_≡_, refl, sym, ap, ap₂, _∙_}
 use mathlib.Core.Bool.{Bool, true, false, cond, not, _&&_}
 use Prim.Native.Nat.{ℕ, _+_, _/_, _%_, _*_, _^_, _<_}
@@ -18,7 +19,8 @@ use Rattle.fault.proofs.dfsr_of.Tie as tie
 -- d between a, at bit 10, and c, below bit 4
 between : (a c d : ℕ) → c < 2 ^ 4 → d < 2 ^ 6 → bitOr (a * 2 ^ 10 + c) (d * 2 ^ 4) ≡ d * 2 ^ 4 + (a * 2 ^ 10 + c)
 between a c d h k =
-    let e : bitOr (a * 2 ^ 6 * 2 ^ 4 + c) (d * 2 ^ 4 + 0) ≡ bitOr (a * 2 ^ 6) d * 2 ^ 4 + bitOr c 0 = or-block 4 (a * 2 ^ 6) d c 0 h (omega arith) in
+    let e : bitOr (a * 2 ^ 6 * 2 ^ 4 + c) (d * 2 ^ 4 + 0) ≡ bitOr (a * 2 ^ 6) d * 2 ^ 4
+    + bitOr c 0 = or-block 4 (a * 2 ^ 6) d c 0 h (omega arith) in
     let x : a * 2 ^ 10 + c ≡ a * 2 ^ 6 * 2 ^ 4 + c = omega arith in
     let y : d * 2 ^ 4 ≡ d * 2 ^ 4 + 0 = omega arith in
     let z : (a * 2 ^ 6 + d) * 2 ^ 4 + c ≡ d * 2 ^ 4 + (a * 2 ^ 10 + c) = omega arith in
@@ -103,7 +105,8 @@ returns-2 c =
     let found = held .before .before .status-of .ensures in
     let code = held .status .given .1 in
     ap Code
-    (joined (args .row) (args .domain) (args .ttbcr) (sym found ∙ code) (c .before .before .is-long .ensures) (c .before .domain-in .ensures)
+    (joined (args .row) (args .domain) (args .ttbcr) (sym found ∙ code) (c .before .before .is-long .ensures)
+    (c .before .domain-in .ensures)
     ∙ sym (zero-add _))
     ∙ marked (args .row) (args .domain) (args .ttbcr) (c .if1 .left) found code
 

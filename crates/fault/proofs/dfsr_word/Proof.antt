@@ -15,7 +15,8 @@ dfsr-of-requires c κs = search needs
 returns : tie.Need-returns
 returns c =
     let start = c .before .before in
-    c .dfsr-of .ensures ∙ ap (λ (row : Row). dfsrOf row (start .args .write) (start .args .domain) (start .args .ttbcr)) (c .before .fault-row .ensures)
+    c .dfsr-of .ensures ∙ ap (λ (row : Row). dfsrOf row (start .args .write) (start .args .domain) (start .args .ttbcr))
+    (c .before .fault-row .ensures)
 
 pub dfsr-word-spec : {M : Type 1} → statement M
 dfsr-word-spec = tie.close (tie.spec fault-row-requires dfsr-of-requires returns)

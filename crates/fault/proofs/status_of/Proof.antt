@@ -11,7 +11,8 @@ use Rattle.fault.proofs.status_of.Statement.{statement}
 use Rattle.fault.proofs.status_of.Tie as tie
 
 -- the code x that was found, put in its place by the test's answer b
-placed : (row : Row) (t : ℕ) {b : Bool} {e x : Encoding} → b ≡ isLong t → e ≡ column row b → e ≡ x → onCode (λ c. statusWord c b) x ≡ statusOf row t
+placed : (row : Row) (t : ℕ) {b : Bool} {e x : Encoding} → b ≡ isLong t → e ≡ column row b → e ≡ x
+    → onCode (λ c. statusWord c b) x ≡ statusOf row t
 unfolding statusOf
 placed row t {b} p q d =
     ap (onCode (λ c. statusWord c b)) (sym d ∙ q) ∙ ap (λ (b : Bool). onCode (λ c. statusWord c b) (column row b)) p

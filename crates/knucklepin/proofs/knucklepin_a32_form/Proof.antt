@@ -20,7 +20,8 @@ enum-told : tie.Need-enum-told
 enum-told c = search needs
 
 returns : tie.Need-returns
-returns c = at-arm formOr (c .form-number .ensures) (sym (c .before .before .before .before .decode .ensures .answer) ∙ c .before .before .f .given .1)
+returns c = at-arm formOr (c .form-number .ensures)
+    (sym (c .before .before .before .before .decode .ensures .answer) ∙ c .before .before .f .given .1)
 
 returns-2 : tie.Need-returns-2
 returns-2 c = at-arm formOr refl (sym (c .before .before .decode .ensures .answer) ∙ c .enum-told .given .1)

@@ -32,7 +32,8 @@ returns : tie.Need-returns
 returns c =
     at-arm encodedFrom
     (at-arm instructionOr refl (sym (c .before .before .before .encode .ensures .answer) ∙ c .before .instruction .given .1))
-    (sym (c .before .before .before .before .before .before .before .decode .ensures .answer) ∙ c .before .before .before .before .before .f .given .1)
+    (sym (c .before .before .before .before .before .before .before .decode .ensures .answer)
+    ∙ c .before .before .before .before .before .f .given .1)
 
 returns-2 : tie.Need-returns-2
 returns-2 c =

@@ -33,12 +33,14 @@ returns c =
     let a = c .before .before .before .before .before .before .before .before .before .args in
     at-arm (rewrittenShortFrom (a .writer))
     (at-arm shortWordOr refl (sym (c .before .before .before .before .write .ensures .answer) ∙ c .before .before .hsr .given .1))
-    (sym (c .before .before .before .before .before .before .before .before .read .ensures .answer) ∙ c .before .before .before .before .before .before .r .given .1)
+    (sym (c .before .before .before .before .before .before .before .before .read .ensures .answer)
+    ∙ c .before .before .before .before .before .before .r .given .1)
 
 returns-2 : tie.Need-returns-2
 returns-2 c =
     let a = c .before .before .before .before .before .before .before .args in
-    at-arm (rewrittenShortFrom (a .writer)) (at-arm shortWordOr refl (sym (c .before .before .write .ensures .answer) ∙ c .enum-told .given .1))
+    at-arm (rewrittenShortFrom (a .writer)) (at-arm shortWordOr refl
+    (sym (c .before .before .write .ensures .answer) ∙ c .enum-told .given .1))
     (sym (c .before .before .before .before .before .before .read .ensures .answer) ∙ c .before .before .before .before .r .given .1)
 
 returns-3 : tie.Need-returns-3

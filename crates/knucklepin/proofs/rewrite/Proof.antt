@@ -30,12 +30,14 @@ returns c =
     let a = c .before .before .before .before .before .before .before .before .args in
     at-arm (rewrittenFrom (a .origin) (a .writer))
     (at-arm wordOr refl (sym (c .before .before .before .write .ensures .answer) ∙ c .before .esr .given .1))
-    (sym (c .before .before .before .before .before .before .before .read .ensures .answer) ∙ c .before .before .before .before .before .r .given .1)
+    (sym (c .before .before .before .before .before .before .before .read .ensures .answer)
+    ∙ c .before .before .before .before .before .r .given .1)
 
 returns-2 : tie.Need-returns-2
 returns-2 c =
     let a = c .before .before .before .before .before .before .before .args in
-    at-arm (rewrittenFrom (a .origin) (a .writer)) (at-arm wordOr refl (sym (c .before .before .write .ensures .answer) ∙ c .enum-told .given .1))
+    at-arm (rewrittenFrom (a .origin) (a .writer))
+    (at-arm wordOr refl (sym (c .before .before .write .ensures .answer) ∙ c .enum-told .given .1))
     (sym (c .before .before .before .before .before .before .read .ensures .answer) ∙ c .before .before .before .before .r .given .1)
 
 returns-3 : tie.Need-returns-3

@@ -46,7 +46,8 @@ returns-2 c =
     let start = first .before .before .before .before in
     let s = now (start .args .log) in
     same-text
-    (trap-piece (start .args .seen) (shown s) (shown-agree s) (first .before .count .ensures) (second .before .count2 .ensures) (start .args .i)
+    (trap-piece (start .args .seen) (shown s) (shown-agree s) (first .before .count .ensures) (second .before .count2 .ensures)
+    (start .args .i)
     (first .if1 .left) (second .if2 .taken))
     (c .before .before .trap-lines .ensures)
 
@@ -67,7 +68,8 @@ returns-3 c =
     let start = first .before .before .before .before in
     let s = now (start .args .log) in
     same-text
-    (injection-piece (start .args .seen) (shown s) (shown-agree s) (first .before .count .ensures) (second .before .count2 .ensures) (start .args .i)
+    (injection-piece (start .args .seen) (shown s) (shown-agree s) (first .before .count .ensures) (second .before .count2 .ensures)
+    (start .args .i)
     (first .if1 .left) (second .if2 .left) (rw (third .before .count3 .ensures) at (third .if3 .taken)))
     (c .before .before .entry-line2 .ensures)
 
@@ -78,7 +80,8 @@ returns-4 c =
     let start = first .before .before .before .before in
     let s = now (start .args .log) in
     same-text
-    (no-piece (start .args .seen) (shown s) (shown-agree s) (first .before .count .ensures) (second .before .count2 .ensures) (start .args .i)
+    (no-piece (start .args .seen) (shown s) (shown-agree s) (first .before .count .ensures) (second .before .count2 .ensures)
+    (start .args .i)
     (first .if1 .left) (second .if2 .left) (rw (c .before .count3 .ensures) at (c .if3 .left)))
     (appends-none _ _)
 

@@ -22,7 +22,8 @@ returns c =
     let read = c .before .before .before in
     let test = read .before .before in
     let a = test .before .before .before .args in
-    same-text (ap readText (read .read-in .ensures .answer) ∙ first-piece (a .seen) (now (a .log)) (a .i) (test .if1 .taken)) (c .before .before .read-line .ensures)
+    same-text (ap readText (read .read-in .ensures .answer) ∙ first-piece (a .seen) (now (a .log)) (a .i) (test .if1 .taken))
+    (c .before .before .read-line .ensures)
 
 sub-entry-piece : tie.Need-sub-entry-piece
 sub-entry-piece c = search needs

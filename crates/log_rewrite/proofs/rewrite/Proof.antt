@@ -24,7 +24,8 @@ returns : tie.Need-returns
 returns c =
     let start = c .before .before .before .before .before in
     promised (now (start .args .log)) (now (start .args .out)) _ _
-    (ap Unread (c .before .before .read .ensures .answer) ∙ refused-again (now (start .args .log)) _ (λ z. c .if1 .taken (told (c .before) ∙ z)))
+    (ap Unread (c .before .before .read .ensures .answer)
+    ∙ refused-again (now (start .args .log)) _ (λ z. c .if1 .taken (told (c .before) ∙ z)))
     refl
 
 taken : (c : tie.Else1) → Taken (now (c .before .before .before .before .before .args .log))
@@ -40,7 +41,8 @@ returns-2 : tie.Need-returns-2
 returns-2 c =
     let start = c .before .before .before .before .before .before .before .before .before in
     let known = c .before .before .before .before .before .before .before .before .shared-slice-known in
-    rewritten-so (now (start .args .log)) (now (start .args .out)) _ (λ i. known .given i .fits) (taken (c .before .before .before .before)) _
+    rewritten-so (now (start .args .log)) (now (start .args .out)) _ (λ i. known .given i .fits)
+    (taken (c .before .before .before .before)) _
     (c .before .before .written .ensures)
 
 pub rewrite-spec : {M : Type 1} → statement M

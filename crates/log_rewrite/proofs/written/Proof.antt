@@ -70,7 +70,11 @@ part-write-start : tie.Need-part-write-start
 part-write-start c = search needs
 
 part-write-end : tie.Need-part-write-end
-part-write-end c = omega (arith, few (c .before .before .before .before .before .before .before .before .before .before .before .before .before .before .before))
+part-write-end c = omega (
+  arith,
+  few (c .before .before .before .before .before .before .before .before .before .before .before .before
+      .before .before .before),
+)
 
 sub-write-2 : tie.Need-sub-write-2
 sub-write-2 c = search needs
@@ -79,7 +83,11 @@ part-write-start-2 : tie.Need-part-write-start-2
 part-write-start-2 c = search needs
 
 part-write-end-2 : tie.Need-part-write-end-2
-part-write-end-2 c = omega (arith, few (c .before .before .before .before .before .before .before .before .before .before .before .before .before .before .before .before .before))
+part-write-end-2 c = omega (
+  arith,
+  few (c .before .before .before .before .before .before .before .before .before .before .before .before
+      .before .before .before .before .before),
+)
 
 sub-write-3 : tie.Need-sub-write-3
 sub-write-3 c = search needs
@@ -88,7 +96,11 @@ part-write-start-3 : tie.Need-part-write-start-3
 part-write-start-3 c = search needs
 
 part-write-end-3 : tie.Need-part-write-end-3
-part-write-end-3 c = omega (arith, few (c .before .before .before .before .before .before .before .before .before .before .before .before .before .before .before .before .before .before .before))
+part-write-end-3 c = omega (
+  arith,
+  few (c .before .before .before .before .before .before .before .before .before .before .before .before
+      .before .before .before .before .before .before .before),
+)
 
 sub-write-4 : tie.Need-sub-write-4
 sub-write-4 c = search needs
@@ -98,7 +110,8 @@ part-write-start-4 c = search needs
 
 part-write-end-4 : tie.Need-part-write-end-4
 part-write-end-4 c =
-    let counted = c .before .before .before .before .before .before .before .before .before .before .before .before .before .before .before .before .before .before .before .before in
+    let counted = c .before .before .before .before .before .before .before .before .before .before .before .before .before .before .before
+    .before .before .before .before .before in
     let start = counted .before .before .before .before in
     omega (arith, last counted, few-injections (now (start .args .log)) (start .pre))
 
@@ -120,7 +133,8 @@ returns c =
     let start = counts .before .before .before .before in
     let s = now (start .args .log) in
     subst (λ (l : Lists). Writing l (now (start .args .out)) (done .write .last .1 .1 .1 .1 .1 .0) (done .write .result))
-    (lists-given s (start .pre) _ _ (traps (counts .before)) (last counts) _ _ _ _ _ (found .bytes .ensures) (fourth .injections2 .ensures) (omega arith)
+    (lists-given s (start .pre) _ _ (traps (counts .before)) (last counts) _ _ _ _ _ (found .bytes .ensures) (fourth .injections2 .ensures)
+    (omega arith)
     (first .words .ensures) (omega arith) (second .words2 .ensures) (omega arith) (third .words3 .ensures) (omega arith))
     (done .write .ensures)
 

@@ -21,7 +21,8 @@ same-length : tie.Need-same-length
 same-length c = search needs
 
 returns : tie.Need-returns
-returns c = appends-both (appends-both (c .before .before .before .before .before .before .before .before .before .before .before .append .ensures) (c .before .before .before .before .before .before .before .decimal-field .ensures)) (c .before .before .append2 .ensures)
+returns c = appends-both (appends-both (c .before .before .before .before .before .before .before .before .before .before .before .append
+    .ensures) (c .before .before .before .before .before .before .before .decimal-field .ensures)) (c .before .before .append2 .ensures)
 
 pub numbered-spec : {M : Type 1} → statement M
 numbered-spec =

@@ -40,8 +40,12 @@ same-length c = search needs
 
 returns : tie.Need-returns
 returns c =
-    appends-both (appends-both (appends-both (c .before .before .before .before .before .before .before .before .before .before .before .before .before .before .before .before .before .append .ensures) (rw (c .before .before .before .before .before .before .before .before .before .before .before .before .before .number-of .ensures) at (c .before .before .before .before .before .before .before .before .before .before .before .before .decimal-field .ensures)))
-    (rw (c .before .before .before .before .before .before .before .before .section-in .ensures) at (c .before .before .before .before .before .before .before .decimal-field2 .ensures))) (c .before .before .append2 .ensures)
+    appends-both (appends-both (appends-both (c .before .before .before .before .before .before .before .before .before .before .before
+    .before .before .before .before .before .before .append .ensures)
+    (rw (c .before .before .before .before .before .before .before .before .before .before .before .before .before .number-of .ensures) at
+    (c .before .before .before .before .before .before .before .before .before .before .before .before .decimal-field .ensures)))
+    (rw (c .before .before .before .before .before .before .before .before .section-in .ensures) at
+    (c .before .before .before .before .before .before .before .decimal-field2 .ensures))) (c .before .before .append2 .ensures)
 
 pub refused-spec : {M : Type 1} → statement M
 refused-spec =

@@ -31,8 +31,12 @@ same-length c = search needs
 
 returns : tie.Need-returns
 returns c =
-    appends-both (appends-both (appends-both (appends-both (c .before .before .before .before .before .before .before .before .before .before .before .before .before .before .before .before .before .before .before .append .ensures) (c .before .before .before .before .before .before .before .before .before .before .before .before .before .before .before .hex-field .ensures))
-    (c .before .before .before .before .before .before .before .before .before .before .before .hex-field2 .ensures)) (c .before .before .before .before .before .before .before .hex-field3 .ensures)) (c .before .before .append2 .ensures)
+    appends-both (appends-both (appends-both (appends-both
+    (c .before .before .before .before .before .before .before .before .before .before .before .before .before .before .before .before
+    .before .before .before .append .ensures) (c .before .before .before .before .before .before .before .before .before .before .before
+    .before .before .before .before .hex-field .ensures))
+    (c .before .before .before .before .before .before .before .before .before .before .before .hex-field2 .ensures))
+    (c .before .before .before .before .before .before .before .hex-field3 .ensures)) (c .before .before .append2 .ensures)
 
 pub words-line-spec : {M : Type 1} → statement M
 words-line-spec =

@@ -75,7 +75,8 @@ returns-4 c =
     let k = first .before .before .before .before .before .args .kind in
     at k
     (again-two k (known .0 .0) (known .0 .1 .0)
-    (tests k (known .0 .0) (known .0 .1 .0) (first .before .neighbour2 .ensures) (first .same3 .ensures) (c .before .same4 .ensures) (c .if2 .taken)))
+    (tests k (known .0 .0) (known .0 .1 .0) (first .before .neighbour2 .ensures) (first .same3 .ensures) (c .before .same4 .ensures)
+    (c .if2 .taken)))
     (known .1)
 
 returns-5 : tie.Need-returns-5
@@ -85,7 +86,8 @@ returns-5 c =
     let k = first .before .before .before .before .before .args .kind in
     at k
     (third-raised k (known .0 .0) (known .0 .1 .0)
-    (tests k (known .0 .0) (known .0 .1 .0) (first .before .neighbour2 .ensures) (first .same3 .ensures) (c .before .same4 .ensures) (c .if2 .left)))
+    (tests k (known .0 .0) (known .0 .1 .0) (first .before .neighbour2 .ensures) (first .same3 .ensures) (c .before .same4 .ensures)
+    (c .if2 .left)))
     (known .1)
 
 returns-6 : tie.Need-returns-6

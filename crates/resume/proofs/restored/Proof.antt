@@ -12,7 +12,8 @@ use Rattle.resume.specs.Return.{restored}
 use Rattle.resume.proofs.restored.Statement.{statement}
 use Rattle.resume.proofs.restored.Tie as tie
 
-all : (s : Guest) (mode status : ℕ) (k : Signed) {n link pc : ℕ} → n ≡ linkRegister mode → link ≡ registerIn (s .regs) n → pc ≡ differenceOf link (signed k)
+all : (s : Guest) (mode status : ℕ) (k : Signed) {n link pc : ℕ} → n ≡ linkRegister mode → link ≡ registerIn (s .regs) n
+    → pc ≡ differenceOf link (signed k)
     → changed s (s .regs) pc status (s .saved) (s .faults) ≡ restored s mode status k
 unfolding restored
 all s mode status k e r p =

@@ -19,7 +19,8 @@ module _ (s : Guest) {m : ℕ} (in-mode : m ≡ modeOf s) where
   mode-test : {b t : Bool} → b ≡ banked m → b ≡ t → banked (modeOf s) ≡ t
   mode-test q r = ap banked (sym in-mode) ∙ sym q ∙ r
 
-  saved-test : {w : ℕ} {b t : Bool} → w ≡ savedOf m (s .saved) → b ≡ sound (s .marks) w → b ≡ t → sound (s .marks) (savedOf (modeOf s) (s .saved)) ≡ t
+  saved-test : {w : ℕ} {b t : Bool} → w ≡ savedOf m (s .saved) → b ≡ sound (s .marks) w → b ≡ t
+      → sound (s .marks) (savedOf (modeOf s) (s .saved)) ≡ t
   saved-test v q r = ap (sound (s .marks)) (ap (λ (n : ℕ). savedOf n (s .saved)) (sym in-mode) ∙ sym v) ∙ sym q ∙ r
 
   went-back : (k : Signed) {w : ℕ} {r : Guest} → w ≡ savedOf m (s .saved) → r ≡ restored s m w k
@@ -29,12 +30,14 @@ module _ (s : Guest) {m : ℕ} (in-mode : m ≡ modeOf s) where
       (e ∙ ap₂ (λ (n w : ℕ). restored s n w k) in-mode (v ∙ ap (λ (n : ℕ). savedOf n (s .saved)) in-mode))
 
 -- past the first test, and past the second
-passed-sound : (c : tie.Else1) → sound (c .before .before .before .args .state .marks) (c .before .before .before .args .state .status) ≡ true
+passed-sound : (c : tie.Else1) → sound (c .before .before .before .args .state .marks) (c .before .before .before .args .state .status)
+    ≡ true
 passed-sound c = sym (c .before .sound .ensures) ∙ not-false _ (c .if1 .left)
 
 passed-mode : (c : tie.Else2) → banked (modeOf (c .before .before .before .before .before .before .before .args .state)) ≡ true
 passed-mode c =
-    mode-test (c .before .before .before .before .before .before .before .args .state) (c .before .before .field32 .ensures) (c .before .banked .ensures)
+    mode-test (c .before .before .before .before .before .before .before .args .state) (c .before .before .field32 .ensures)
+    (c .before .banked .ensures)
     (not-false _ (c .if2 .left))
 
 sound-requires : tie.Need-sound-requires
@@ -79,7 +82,8 @@ returns-3 c =
     promised (start .args .state) (start .args .correction)
     (by-answer (start .args .state) (start .args .correction)
     (unsound-saved (start .args .state) (passed-sound first) (passed-mode second)
-    (saved-test (start .args .state) (second .before .before .field32 .ensures) (c .before .before .saved-of .ensures) (c .before .sound2 .ensures)
+    (saved-test (start .args .state) (second .before .before .field32 .ensures) (c .before .before .saved-of .ensures)
+    (c .before .sound2 .ensures)
     (not-true _ (c .if3 .taken)))))
 
 restored-requires : tie.Need-restored-requires
@@ -92,7 +96,8 @@ returns-4 c =
     let first = second .before .before .before .before in
     let start = first .before .before .before in
     promised (start .args .state) (start .args .correction)
-    (went-back (start .args .state) (second .before .before .field32 .ensures) (start .args .correction) (third .before .before .saved-of .ensures)
+    (went-back (start .args .state) (second .before .before .field32 .ensures) (start .args .correction)
+    (third .before .before .saved-of .ensures)
     (c .restored .ensures)
     ∙ by-answer (start .args .state) (start .args .correction)
     (passed (start .args .state)
@@ -100,7 +105,8 @@ returns-4 c =
       status = passed-sound first;
       mode = passed-mode second;
       saved =
-          saved-test (start .args .state) (second .before .before .field32 .ensures) (third .before .before .saved-of .ensures) (third .before .sound2 .ensures)
+          saved-test (start .args .state) (second .before .before .field32 .ensures) (third .before .before .saved-of .ensures)
+          (third .before .sound2 .ensures)
           (not-false _ (third .if3 .left));
     }))
 

@@ -22,7 +22,8 @@ use Rattle.short.proofs.read.Tie as tie
 
 -- what the code makes of a verdict that it came to
 judged : (e : ℕ) (hsr : Hsr) → isEdition e ≡ true → classKnown (hsr .0) ≡ true → wordIl (hsr .0) ≡ true
-    → {r : Record} {m : ℕ} {came verdict : Verdict} → r ≡ recordAt (hsr .0) → m ≡ maskOf (λ x. makes x r (hsr .0)) → came ≡ judgeOf e m → came ≡ verdict
+    → {r : Record} {m : ℕ} {came verdict : Verdict} → r ≡ recordAt (hsr .0) → m ≡ maskOf (λ x. makes x r (hsr .0)) → came ≡ judgeOf e m
+    → came ≡ verdict
     → readVerdict r verdict ≡ readOf e hsr
 judged e hsr k c l {r} at mask judge same =
     sym (read-judged e hsr k c l
@@ -52,7 +53,8 @@ returns-2 c =
     let a = known .before .before .before .args in
     let k = sym (known .before .known .ensures) ∙ not-false _ (known .if1 .left) in
     reads (a .edition) (a .hsr)
-    (sym (read-class (a .edition) (a .hsr) k (sym (c .before .is-class .ensures ∙ ap isClass (c .before .before .field32 .ensures)) ∙ not-true _ (c .if2 .taken))))
+    (sym (read-class (a .edition) (a .hsr) k (sym (c .before .is-class .ensures ∙ ap isClass (c .before .before .field32 .ensures))
+    ∙ not-true _ (c .if2 .taken))))
 
 word-il-requires : tie.Need-word-il-requires
 word-il-requires c κs = search needs
@@ -63,7 +65,8 @@ returns-3 c =
     let known = class .before .before .before in
     let a = known .before .before .before .args in
     let k = sym (known .before .known .ensures) ∙ not-false _ (known .if1 .left) in
-    let b = sym (class .before .is-class .ensures ∙ ap isClass (class .before .before .field32 .ensures)) ∙ not-false _ (class .if2 .left) in
+    let b = sym (class .before .is-class .ensures ∙ ap isClass (class .before .before .field32 .ensures))
+    ∙ not-false _ (class .if2 .left) in
     reads (a .edition) (a .hsr)
     (sym (read-short (a .edition) (a .hsr) k b (sym (c .before .word-il .ensures) ∙ not-true _ (c .if3 .taken))))
 
@@ -92,7 +95,8 @@ returns-4 c =
     reads (a .edition) (a .hsr)
     (judged (a .edition) (a .hsr) (sym (known .before .known .ensures) ∙ not-false _ (known .if1 .left))
     (sym (class .before .is-class .ensures ∙ ap isClass (class .before .before .field32 .ensures)) ∙ not-false _ (class .if2 .left))
-    (sym (long .before .word-il .ensures) ∙ not-false _ (long .if3 .left)) (at .before .before .record-at .ensures) (at .before .word-editions .ensures)
+    (sym (long .before .word-il .ensures) ∙ not-false _ (long .if3 .left)) (at .before .before .record-at .ensures)
+    (at .before .word-editions .ensures)
     (at .judge .ensures) (c .enum-told .given .1))
 
 returns-5 : tie.Need-returns-5
@@ -105,7 +109,8 @@ returns-5 c =
     reads (a .edition) (a .hsr)
     (judged (a .edition) (a .hsr) (sym (known .before .known .ensures) ∙ not-false _ (known .if1 .left))
     (sym (class .before .is-class .ensures ∙ ap isClass (class .before .before .field32 .ensures)) ∙ not-false _ (class .if2 .left))
-    (sym (long .before .word-il .ensures) ∙ not-false _ (long .if3 .left)) (at .before .before .record-at .ensures) (at .before .word-editions .ensures)
+    (sym (long .before .word-il .ensures) ∙ not-false _ (long .if3 .left)) (at .before .before .record-at .ensures)
+    (at .before .word-editions .ensures)
     (at .judge .ensures) (c .before .refusal .given .1))
 
 pub read-spec : {M : Type 1} → statement M

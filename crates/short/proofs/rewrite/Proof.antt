@@ -26,7 +26,8 @@ returns c =
     let told = c .before .before .r .given in
     let took = sym (c .before .before .before .before .read .ensures .answer) ∙ told .1 in
     rewrites (a .edition) (a .hsr)
-    (c .write .ensures .answer ∙ read-as-written (a .edition) (a .hsr) (told .0 .0) .0 took ∙ sym (rewritten-taken (a .edition) (a .hsr) (told .0 .0) took))
+    (c .write .ensures .answer ∙ read-as-written (a .edition) (a .hsr) (told .0 .0) .0 took
+    ∙ sym (rewritten-taken (a .edition) (a .hsr) (told .0 .0) took))
 
 returns-2 : tie.Need-returns-2
 returns-2 c =

@@ -31,16 +31,19 @@ own-il r same l b = sym (l ∙ ap (λ (x : Head). ilRule (x .class) (x .isv) (x 
 
 module _ (e : ℕ) (r : Record) (k : isEdition e ≡ true) (o : headOf r .own ≡ true) (l : recordIl r ≡ true) where
   -- what the code makes of a verdict that it came to
-  judged : {m : ℕ} {came verdict : Verdict} → m ≡ editionsOf r → came ≡ judgeOf e m → came ≡ verdict → writeVerdict (recordWord r) verdict ≡ writeOf e r
+  judged : {m : ℕ} {came verdict : Verdict} → m ≡ editionsOf r → came ≡ judgeOf e m → came ≡ verdict
+      → writeVerdict (recordWord r) verdict ≡ writeOf e r
   judged mask judge same = sym (write-judged e r k o l ∙ ap (writeVerdict (recordWord r)) (ap (judgeOf e) (sym mask) ∙ sym judge ∙ same))
 
   joined : {w m : ℕ} {came : Verdict} → w ≡ joinedFrom 0 (fieldsOf r) → m ≡ editionsOf r → came ≡ judgeOf e m → came ≡ Verdict.Taken
       → Written.Word (record { 0 = w }) ≡ writeOf e r
   joined made mask judge same =
-      ap (λ (w : ℕ). Written.Word (record { 0 = w })) (made ∙ joined-taken e r k (ap (judgeOf e) (sym mask) ∙ sym judge ∙ same)) ∙ judged mask judge same
+      ap (λ (w : ℕ). Written.Word (record { 0 = w })) (made ∙ joined-taken e r k (ap (judgeOf e) (sym mask) ∙ sym judge ∙ same))
+      ∙ judged mask judge same
 
 -- the word that is put together has 32 bits
-below : (e : ℕ) (r : Record) → isEdition e ≡ true → {w m : ℕ} {came : Verdict} → w ≡ joinedFrom 0 (fieldsOf r) → m ≡ editionsOf r → came ≡ judgeOf e m
+below : (e : ℕ) (r : Record) → isEdition e ≡ true → {w m : ℕ} {came : Verdict} → w ≡ joinedFrom 0 (fieldsOf r) → m ≡ editionsOf r
+    → came ≡ judgeOf e m
     → came ≡ Verdict.Taken → w < 2 ^ 32
 below e r k made mask judge same =
     subst (λ (w : ℕ). w < 2 ^ 32) (sym made) (joined-below e r k (ap (judgeOf e) (sym mask) ∙ sym judge ∙ same))
@@ -100,7 +103,8 @@ cast-t14 c =
     let head = known .before .before in
     let a = head .before .args in
     record {
-      fits = below (a .edition) (a .r) (sym (known .before .known .ensures) ∙ not-false _ (known .if1 .left)) (c .joined .ensures) (at .before .editions .ensures)
+      fits = below (a .edition) (a .r) (sym (known .before .known .ensures) ∙ not-false _ (known .if1 .left)) (c .joined .ensures)
+          (at .before .editions .ensures)
           (at .judge .ensures) (c .before .enum-told .given .1);
     }
 
@@ -118,7 +122,8 @@ returns-4 c =
     writes (a .edition) (a .r)
     (joined (a .edition) (a .r) (sym (known .before .known .ensures) ∙ not-false _ (known .if1 .left))
     (own-class (a .r) (head .head .ensures) (not-false _ (own .if2 .left)))
-    (own-il (a .r) (head .head .ensures) (long .before .il-rule .ensures) (not-false _ (long .if3 .left))) (c .joined .ensures) (at .before .editions .ensures)
+    (own-il (a .r) (head .head .ensures) (long .before .il-rule .ensures) (not-false _ (long .if3 .left))) (c .joined .ensures)
+    (at .before .editions .ensures)
     (at .judge .ensures) (c .before .enum-told .given .1))
 
 returns-5 : tie.Need-returns-5
@@ -132,7 +137,8 @@ returns-5 c =
     writes (a .edition) (a .r)
     (judged (a .edition) (a .r) (sym (known .before .known .ensures) ∙ not-false _ (known .if1 .left))
     (own-class (a .r) (head .head .ensures) (not-false _ (own .if2 .left)))
-    (own-il (a .r) (head .head .ensures) (long .before .il-rule .ensures) (not-false _ (long .if3 .left))) (at .before .editions .ensures) (at .judge .ensures)
+    (own-il (a .r) (head .head .ensures) (long .before .il-rule .ensures) (not-false _ (long .if3 .left))) (at .before .editions .ensures)
+    (at .judge .ensures)
     (c .before .refusal .given .1))
 
 pub write-spec : {M : Type 1} → statement M

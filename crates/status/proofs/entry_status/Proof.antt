@@ -23,8 +23,11 @@ module _ (marks : Marks) (m : Mode) (set-a set-f : Bool) (old sctlr : ℕ) where
   t-bit = let e : bitAnd sctlr 0x4000_0000 ≡ sctlr / 2 ^ 30 % 2 * 2 ^ 30 = and-high sctlr 1 30 in omega arith
 
   -- the code's word, with its five calls' answers
-  joined : {s p a f n : ℕ} → s ≡ entrySsbs (marks .ssbs) old sctlr * 2 ^ 23 → p ≡ entryPan (marks .pan) old sctlr * 2 ^ 22 → a ≡ entryA set-a old * 2 ^ 8 → f ≡ entryF set-f old * 2 ^ 6 → n ≡ modeNumber m
-      → bitOr (bitOr (bitOr (bitOr (bitOr (bitOr (bitOr (bitOr (bitOr (bitOr (bitOr (bitAnd old 0xF800_0000) (bitAnd old 0x0100_0000)) s) p) (bitAnd old 0x0020_0000)) (bitAnd old 0x000F_0000)) (bitAnd sctlr 0x0200_0000 / 2 ^ 16)) a) 0x80) f) (bitAnd sctlr 0x4000_0000 / 2 ^ 25)) n
+  joined : {s p a f n : ℕ} → s ≡ entrySsbs (marks .ssbs) old sctlr * 2 ^ 23 → p ≡ entryPan (marks .pan) old sctlr * 2 ^ 22
+      → a ≡ entryA set-a old * 2 ^ 8 → f ≡ entryF set-f old * 2 ^ 6 → n ≡ modeNumber m
+      → bitOr (bitOr (bitOr (bitOr (bitOr (bitOr (bitOr
+      (bitOr (bitOr (bitOr (bitOr (bitAnd old 0xF800_0000) (bitAnd old 0x0100_0000)) s) p) (bitAnd old 0x0020_0000))
+      (bitAnd old 0x000F_0000)) (bitAnd sctlr 0x0200_0000 / 2 ^ 16)) a) 0x80) f) (bitAnd sctlr 0x4000_0000 / 2 ^ 25)) n
       ≡ entryStatus marks m set-a set-f old sctlr
   unfolding entryStatus
   joined s p a f q =
@@ -73,7 +76,8 @@ mode-number-requires c κs = search needs
 returns : tie.Need-returns
 returns c =
     let start = c .before .before .before .before .before in
-    joined (start .args .marks) _ _ _ _ _ (c .before .before .before .before .entry-ssbs .ensures) (c .before .before .before .entry-pan .ensures)
+    joined (start .args .marks) _ _ _ _ _ (c .before .before .before .before .entry-ssbs .ensures)
+    (c .before .before .before .entry-pan .ensures)
     (c .before .before .entry-a .ensures) (c .before .entry-f .ensures) (c .mode-number .ensures)
 
 pub entry-status-spec : {M : Type 1} → statement M

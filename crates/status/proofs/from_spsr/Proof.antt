@@ -13,7 +13,8 @@ use Rattle.status.proofs.from_spsr.Statement.{statement}
 use Rattle.status.proofs.from_spsr.Tie as tie
 
 -- the word v that was made, and the answer b of the test on it
-made : (marks : Marks) (w : ℕ) {v : ℕ} {t b : Bool} → v ≡ spsrStatus w → t ≡ sound marks v → t ≡ b → cond b (Status v) Unsound ≡ fromSpsr marks w
+made : (marks : Marks) (w : ℕ) {v : ℕ} {t b : Bool} → v ≡ spsrStatus w → t ≡ sound marks v → t ≡ b
+    → cond b (Status v) Unsound ≡ fromSpsr marks w
 unfolding fromSpsr
 made marks w {v} p q e =
     ap (λ (b : Bool). cond b (Status v) Unsound) (sym e ∙ q)

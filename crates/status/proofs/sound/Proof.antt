@@ -57,8 +57,10 @@ returns c =
     let start = c .before .before .before .before .before .before .before .before .before in
     tests (start .args .marks) (start .args .status)
     (c .before .before .before .before .before .before .before .before .bit .ensures)
-    (flag false (c .before .before .before .before .before .before .before .bit2 .ensures) (c .before .before .before .before .before .before .allowed .ensures))
-    (flag (start .args .marks .ssbs) (c .before .before .before .before .before .bit3 .ensures) (c .before .before .before .before .allowed2 .ensures))
+    (flag false (c .before .before .before .before .before .before .before .bit2 .ensures)
+    (c .before .before .before .before .before .before .allowed .ensures))
+    (flag (start .args .marks .ssbs) (c .before .before .before .before .before .bit3 .ensures)
+    (c .before .before .before .before .allowed2 .ensures))
     (flag (start .args .marks .pan) (c .before .before .before .bit4 .ensures) (c .before .before .allowed3 .ensures))
     (flag (start .args .marks .dit) (c .before .bit5 .ensures) (c .allowed4 .ensures))
 

@@ -35,7 +35,8 @@ returns-2 c =
     let a = c .before .before .before .before .args in
     let told = c .before .refusal .given in
     carries (a .origin) (a .writer) (a .reader) (a .r)
-    (sym (carried-unwritten (a .origin) (a .writer) (a .reader) (a .r) (told .0 .0) (sym (c .before .before .before .write .ensures .answer) ∙ told .1)))
+    (sym (carried-unwritten (a .origin) (a .writer) (a .reader) (a .r) (told .0 .0)
+    (sym (c .before .before .before .write .ensures .answer) ∙ told .1)))
 
 pub carry-spec : {M : Type 1} → statement M
 carry-spec =

@@ -23,8 +23,10 @@ use Rattle.syndrome.proofs.read.Statement.{statement}
 use Rattle.syndrome.proofs.read.Tie as tie
 
 -- what the code makes of a verdict that it came to
-judged : (o : Origin) (e : ℕ) (esr : Esr) → isEdition e ≡ true → upperClear (esr .0) ≡ true → classKnown o (esr .0) ≡ true → wordIl o (esr .0) ≡ true
-    → {r : Record} {m : ℕ} {came verdict : Verdict} → r ≡ recordAt (esr .0) → m ≡ maskOf (λ x. makes o x r (esr .0)) → came ≡ judgeOf e m → came ≡ verdict
+judged : (o : Origin) (e : ℕ) (esr : Esr) → isEdition e ≡ true → upperClear (esr .0) ≡ true → classKnown o (esr .0) ≡ true
+    → wordIl o (esr .0) ≡ true
+    → {r : Record} {m : ℕ} {came verdict : Verdict} → r ≡ recordAt (esr .0) → m ≡ maskOf (λ x. makes o x r (esr .0)) → came ≡ judgeOf e m
+    → came ≡ verdict
     → readVerdict r verdict ≡ readOf o e esr
 judged o e esr k u c l {r} at mask judge same =
     sym (read-judged o e esr k u c l
@@ -37,7 +39,8 @@ known-requires c κs = search needs
 returns : tie.Need-returns
 returns c =
     let a = c .before .before .args in
-    reads (a .origin) (a .edition) (a .esr) (sym (read-unknown (a .origin) (a .edition) (a .esr) (sym (c .before .known .ensures) ∙ not-true _ (c .if1 .taken))))
+    reads (a .origin) (a .edition) (a .esr) (sym (read-unknown (a .origin) (a .edition) (a .esr)
+    (sym (c .before .known .ensures) ∙ not-true _ (c .if1 .taken))))
 
 field-requires : tie.Need-field-requires
 field-requires c κs = search needs
@@ -64,7 +67,8 @@ returns-3 c =
     let k = sym (known .before .known .ensures) ∙ not-false _ (known .if1 .left) in
     let u = eq-eqb _ _ (sym (clear .before .field .ensures) ∙ clear .if2 .left) in
     reads (a .origin) (a .edition) (a .esr)
-    (sym (read-class (a .origin) (a .edition) (a .esr) k u (sym (c .before .is-class .ensures ∙ ap (isClass (a .origin)) (c .before .before .field32 .ensures)) ∙ not-true _ (c .if3 .taken))))
+    (sym (read-class (a .origin) (a .edition) (a .esr) k u
+    (sym (c .before .is-class .ensures ∙ ap (isClass (a .origin)) (c .before .before .field32 .ensures)) ∙ not-true _ (c .if3 .taken))))
 
 word-il-requires : tie.Need-word-il-requires
 word-il-requires c κs = search needs
@@ -77,7 +81,8 @@ returns-4 c =
     let a = known .before .before .args in
     let k = sym (known .before .known .ensures) ∙ not-false _ (known .if1 .left) in
     let u = eq-eqb _ _ (sym (clear .before .field .ensures) ∙ clear .if2 .left) in
-    let b = sym (class .before .is-class .ensures ∙ ap (isClass (a .origin)) (class .before .before .field32 .ensures)) ∙ not-false _ (class .if3 .left) in
+    let b = sym (class .before .is-class .ensures ∙ ap (isClass (a .origin)) (class .before .before .field32 .ensures))
+    ∙ not-false _ (class .if3 .left) in
     reads (a .origin) (a .edition) (a .esr)
     (sym (read-short (a .origin) (a .edition) (a .esr) k u b (sym (c .before .word-il .ensures) ∙ not-true _ (c .if4 .taken))))
 
@@ -107,8 +112,10 @@ returns-5 c =
     reads (a .origin) (a .edition) (a .esr)
     (judged (a .origin) (a .edition) (a .esr) (sym (known .before .known .ensures) ∙ not-false _ (known .if1 .left))
     (eq-eqb _ _ (sym (clear .before .field .ensures) ∙ clear .if2 .left))
-    (sym (class .before .is-class .ensures ∙ ap (isClass (a .origin)) (class .before .before .field32 .ensures)) ∙ not-false _ (class .if3 .left))
-    (sym (long .before .word-il .ensures) ∙ not-false _ (long .if4 .left)) (at .before .before .record-at .ensures) (at .before .word-editions .ensures)
+    (sym (class .before .is-class .ensures ∙ ap (isClass (a .origin)) (class .before .before .field32 .ensures))
+    ∙ not-false _ (class .if3 .left))
+    (sym (long .before .word-il .ensures) ∙ not-false _ (long .if4 .left)) (at .before .before .record-at .ensures)
+    (at .before .word-editions .ensures)
     (at .judge .ensures) (c .enum-told .given .1))
 
 returns-6 : tie.Need-returns-6
@@ -122,8 +129,10 @@ returns-6 c =
     reads (a .origin) (a .edition) (a .esr)
     (judged (a .origin) (a .edition) (a .esr) (sym (known .before .known .ensures) ∙ not-false _ (known .if1 .left))
     (eq-eqb _ _ (sym (clear .before .field .ensures) ∙ clear .if2 .left))
-    (sym (class .before .is-class .ensures ∙ ap (isClass (a .origin)) (class .before .before .field32 .ensures)) ∙ not-false _ (class .if3 .left))
-    (sym (long .before .word-il .ensures) ∙ not-false _ (long .if4 .left)) (at .before .before .record-at .ensures) (at .before .word-editions .ensures)
+    (sym (class .before .is-class .ensures ∙ ap (isClass (a .origin)) (class .before .before .field32 .ensures))
+    ∙ not-false _ (class .if3 .left))
+    (sym (long .before .word-il .ensures) ∙ not-false _ (long .if4 .left)) (at .before .before .record-at .ensures)
+    (at .before .word-editions .ensures)
     (at .judge .ensures) (c .before .refusal .given .1))
 
 pub read-spec : {M : Type 1} → statement M

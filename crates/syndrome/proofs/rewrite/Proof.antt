@@ -26,14 +26,16 @@ returns c =
     let told = c .before .before .r .given in
     let took = sym (c .before .before .before .before .read .ensures .answer) ∙ told .1 in
     rewrites (a .origin) (a .edition) (a .esr)
-    (c .write .ensures .answer ∙ read-as-written (a .origin) (a .edition) (a .esr) (told .0 .0) .0 took ∙ sym (rewritten-taken (a .origin) (a .edition) (a .esr) (told .0 .0) took))
+    (c .write .ensures .answer ∙ read-as-written (a .origin) (a .edition) (a .esr) (told .0 .0) .0 took
+    ∙ sym (rewritten-taken (a .origin) (a .edition) (a .esr) (told .0 .0) took))
 
 returns-2 : tie.Need-returns-2
 returns-2 c =
     let a = c .before .before .before .before .args in
     let told = c .before .refusal .given in
     rewrites (a .origin) (a .edition) (a .esr)
-    (sym (rewritten-refused (a .origin) (a .edition) (a .esr) (told .0 .0) (sym (c .before .before .before .read .ensures .answer) ∙ told .1)))
+    (sym (rewritten-refused (a .origin) (a .edition) (a .esr) (told .0 .0)
+    (sym (c .before .before .before .read .ensures .answer) ∙ told .1)))
 
 pub rewrite-spec : {M : Type 1} → statement M
 rewrite-spec =

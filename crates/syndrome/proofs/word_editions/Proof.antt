@@ -1,5 +1,5 @@
--- `syndrome::word_editions` meets its contract: where the word comes back from the record, the record's editions; `makes-mask` says that they are the word's.
--- Assumes nothing.
+-- `syndrome::word_editions` meets its contract: where the word comes back from the record, the record's editions; `makes-mask` says that
+-- they are the word's. Assumes nothing.
 use borrow.Author.Needs.{needs}
 use mathlib.Core.Path.{_∙_, sym, ap}
 use mathlib.Core.Bool.{Bool, cond}
@@ -18,7 +18,8 @@ editions-requires c κs = search needs
 returns : tie.Need-returns
 returns c =
     let a = c .before .before .before .args in
-    c .editions .ensures ∙ ap (λ (b : Bool). cond b (editionsOf (a .origin) (a .r)) 0) (sym (eq-eqb _ _ (sym (c .before .before .joined .ensures) ∙ c .before .if1 .taken)))
+    c .editions .ensures ∙ ap (λ (b : Bool). cond b (editionsOf (a .origin) (a .r)) 0)
+    (sym (eq-eqb _ _ (sym (c .before .before .joined .ensures) ∙ c .before .if1 .taken)))
     ∙ makes-mask (a .origin) (a .r) (a .word)
 
 returns-2 : tie.Need-returns-2

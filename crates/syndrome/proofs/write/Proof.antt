@@ -24,22 +24,26 @@ use Rattle.syndrome.proofs.write.Statement.{statement}
 use Rattle.syndrome.proofs.write.Tie as tie
 
 -- a record's head, as the code has it
-own-class : (o : Origin) {h : Head} (r : Record) {known b : Bool} → h ≡ headOf r → known ≡ isClass o (h .class) → (h .own && known) ≡ b → recordClass o r ≡ b
+own-class : (o : Origin) {h : Head} (r : Record) {known b : Bool} → h ≡ headOf r → known ≡ isClass o (h .class) → (h .own && known) ≡ b
+    → recordClass o r ≡ b
 own-class o r same k b =
     sym (ap₂ _&&_ (ap (λ (x : Head). x .own) same) (k ∙ ap (λ (x : Head). isClass o (x .class)) same)) ∙ b
 
-own-il : (o : Origin) {h : Head} (r : Record) {long b : Bool} → h ≡ headOf r → long ≡ ilRule o (h .class) (h .isv) (h .il) → long ≡ b → recordIl o r ≡ b
+own-il : (o : Origin) {h : Head} (r : Record) {long b : Bool} → h ≡ headOf r → long ≡ ilRule o (h .class) (h .isv) (h .il) → long ≡ b
+    → recordIl o r ≡ b
 own-il o r same l b = sym (l ∙ ap (λ (x : Head). ilRule o (x .class) (x .isv) (x .il)) same) ∙ b
 
 module _ (o : Origin) (e : ℕ) (r : Record) (k : isEdition e ≡ true) (w : recordClass o r ≡ true) (l : recordIl o r ≡ true) where
   -- what the code makes of a verdict that it came to
-  judged : {m : ℕ} {came verdict : Verdict} → m ≡ editionsOf o r → came ≡ judgeOf e m → came ≡ verdict → writeVerdict (recordWord r) verdict ≡ writeOf o e r
+  judged : {m : ℕ} {came verdict : Verdict} → m ≡ editionsOf o r → came ≡ judgeOf e m → came ≡ verdict
+      → writeVerdict (recordWord r) verdict ≡ writeOf o e r
   judged mask judge same = sym (write-judged o e r k w l ∙ ap (writeVerdict (recordWord r)) (ap (judgeOf e) (sym mask) ∙ sym judge ∙ same))
 
   joined : {w m : ℕ} {came : Verdict} → w ≡ joinedFrom 0 (fieldsOf r) → m ≡ editionsOf o r → came ≡ judgeOf e m → came ≡ Verdict.Taken
       → Written.Word (record { 0 = w }) ≡ writeOf o e r
   joined made mask judge same =
-      ap (λ (w : ℕ). Written.Word (record { 0 = w })) (made ∙ joined-taken o e r k (ap (judgeOf e) (sym mask) ∙ sym judge ∙ same)) ∙ judged mask judge same
+      ap (λ (w : ℕ). Written.Word (record { 0 = w })) (made ∙ joined-taken o e r k (ap (judgeOf e) (sym mask) ∙ sym judge ∙ same))
+      ∙ judged mask judge same
 
 head-requires : tie.Need-head-requires
 head-requires c κs = search needs
@@ -50,7 +54,8 @@ known-requires c κs = search needs
 returns : tie.Need-returns
 returns c =
     let a = c .before .before .before .args in
-    writes (a .origin) (a .edition) (a .r) (sym (write-unknown (a .origin) (a .edition) (a .r) (sym (c .before .known .ensures) ∙ not-true _ (c .if1 .taken))))
+    writes (a .origin) (a .edition) (a .r) (sym (write-unknown (a .origin) (a .edition) (a .r)
+    (sym (c .before .known .ensures) ∙ not-true _ (c .if1 .taken))))
 
 is-class-requires : tie.Need-is-class-requires
 is-class-requires c κs = search needs
@@ -104,7 +109,8 @@ returns-4 c =
     writes (a .origin) (a .edition) (a .r)
     (joined (a .origin) (a .edition) (a .r) (sym (known .before .known .ensures) ∙ not-false _ (known .if1 .left))
     (own-class (a .origin) (a .r) (head .head .ensures) (own .before .before .is-class .ensures) (not-false _ (own .if2 .left)))
-    (own-il (a .origin) (a .r) (head .head .ensures) (long .before .il-rule .ensures) (not-false _ (long .if3 .left))) (c .joined .ensures) (at .before .editions .ensures)
+    (own-il (a .origin) (a .r) (head .head .ensures) (long .before .il-rule .ensures) (not-false _ (long .if3 .left))) (c .joined .ensures)
+    (at .before .editions .ensures)
     (at .judge .ensures) (c .before .enum-told .given .1))
 
 returns-5 : tie.Need-returns-5
@@ -118,7 +124,8 @@ returns-5 c =
     writes (a .origin) (a .edition) (a .r)
     (judged (a .origin) (a .edition) (a .r) (sym (known .before .known .ensures) ∙ not-false _ (known .if1 .left))
     (own-class (a .origin) (a .r) (head .head .ensures) (own .before .before .is-class .ensures) (not-false _ (own .if2 .left)))
-    (own-il (a .origin) (a .r) (head .head .ensures) (long .before .il-rule .ensures) (not-false _ (long .if3 .left))) (at .before .editions .ensures) (at .judge .ensures)
+    (own-il (a .origin) (a .r) (head .head .ensures) (long .before .il-rule .ensures) (not-false _ (long .if3 .left)))
+    (at .before .editions .ensures) (at .judge .ensures)
     (c .before .refusal .given .1))
 
 pub write-spec : {M : Type 1} → statement M

@@ -28,21 +28,27 @@ deny true true e = ap not e
 deny true false e = ap not e
 deny false right e = ap not e
 
-hpfar-test : (e : ℕ) (r : Record) (hpfar : Hpfar) {k : Addresses} {counts right wrong : Bool} → k ≡ addressesOf r → counts ≡ hpfarCounts k → right ≡ hpfarRule e hpfar
+hpfar-test : (e : ℕ) (r : Record) (hpfar : Hpfar) {k : Addresses} {counts right wrong : Bool} → k ≡ addressesOf r → counts ≡ hpfarCounts k
+    → right ≡ hpfarRule e hpfar
     → (counts && not right) ≡ wrong → hpfarRight e (addressesOf r) hpfar ≡ not wrong
 hpfar-test e r hpfar known c d w =
-    deny (hpfarCounts (addressesOf r)) (hpfarRule e hpfar) (ap₂ (λ (x y : Bool). x && not y) (ap hpfarCounts (sym known) ∙ sym c) (sym d) ∙ w)
+    deny (hpfarCounts (addressesOf r)) (hpfarRule e hpfar)
+    (ap₂ (λ (x y : Bool). x && not y) (ap hpfarCounts (sym known) ∙ sym c) (sym d) ∙ w)
 
-far-test : (o : Origin) (r : Record) (far : Far) {k : Addresses} {counts right wrong : Bool} → k ≡ addressesOf r → counts ≡ farCounts k → right ≡ farRule o far
+far-test : (o : Origin) (r : Record) (far : Far) {k : Addresses} {counts right wrong : Bool} → k ≡ addressesOf r → counts ≡ farCounts k
+    → right ≡ farRule o far
     → (counts && not right) ≡ wrong → farRight o (addressesOf r) far ≡ not wrong
 far-test o r far known c d w =
     deny (farCounts (addressesOf r)) (farRule o far) (ap₂ (λ (x y : Bool). x && not y) (ap farCounts (sym known) ∙ sym c) (sym d) ∙ w)
 
-by-tests : (o : Origin) (e : ℕ) (r : Record) (far : Far) (hpfar : Hpfar) {h f : Bool} → hpfarRight e (addressesOf r) hpfar ≡ h → farRight o (addressesOf r) far ≡ f
-    → decide (Decide.needs h (Answer.Refused TrapRefusal.Hpfar) ∷ Decide.needs f (Answer.Refused TrapRefusal.Far) ∷ []) (Answer.Shown (trapOf r far hpfar)) ≡ answerRecord o e r far hpfar
+by-tests : (o : Origin) (e : ℕ) (r : Record) (far : Far) (hpfar : Hpfar) {h f : Bool} → hpfarRight e (addressesOf r) hpfar ≡ h
+    → farRight o (addressesOf r) far ≡ f
+    → decide (Decide.needs h (Answer.Refused TrapRefusal.Hpfar) ∷ Decide.needs f (Answer.Refused TrapRefusal.Far) ∷ [])
+    (Answer.Shown (trapOf r far hpfar)) ≡ answerRecord o e r far hpfar
 unfolding answerRecord
 by-tests o e r far hpfar h f =
-    sym (ap₂ (λ (x y : Bool). decide (Decide.needs x (Answer.Refused TrapRefusal.Hpfar) ∷ Decide.needs y (Answer.Refused TrapRefusal.Far) ∷ []) (Answer.Shown (trapOf r far hpfar))) h f)
+    sym (ap₂ (λ (x y : Bool). decide (Decide.needs x (Answer.Refused TrapRefusal.Hpfar) ∷ Decide.needs y (Answer.Refused TrapRefusal.Far)
+    ∷ []) (Answer.Shown (trapOf r far hpfar))) h f)
 
 addresses-requires : tie.Need-addresses-requires
 addresses-requires c κs = search needs
@@ -57,7 +63,9 @@ returns : tie.Need-returns
 returns c =
     let at = c .before .before .before in
     let a = at .before .args in
-    by-tests (a .origin) (a .edition) (a .r) (a .far) (a .hpfar) (hpfar-test (a .edition) (a .r) (a .hpfar) (at .addresses .ensures) (c .before .before .hpfar-counts .ensures) (c .before .hpfar-rule .ensures) (c .if1 .taken)) refl
+    by-tests (a .origin) (a .edition) (a .r) (a .far) (a .hpfar)
+    (hpfar-test (a .edition) (a .r) (a .hpfar) (at .addresses .ensures) (c .before .before .hpfar-counts .ensures)
+    (c .before .hpfar-rule .ensures) (c .if1 .taken)) refl
 
 far-counts-requires : tie.Need-far-counts-requires
 far-counts-requires c κs = search needs
@@ -71,8 +79,10 @@ returns-2 c =
     let at = h .before .before .before in
     let a = at .before .args in
     by-tests (a .origin) (a .edition) (a .r) (a .far) (a .hpfar)
-    (hpfar-test (a .edition) (a .r) (a .hpfar) (at .addresses .ensures) (h .before .before .hpfar-counts .ensures) (h .before .hpfar-rule .ensures) (h .if1 .left))
-    (far-test (a .origin) (a .r) (a .far) (at .addresses .ensures) (c .before .before .far-counts .ensures) (c .before .far-rule .ensures) (c .if2 .taken))
+    (hpfar-test (a .edition) (a .r) (a .hpfar) (at .addresses .ensures) (h .before .before .hpfar-counts .ensures)
+    (h .before .hpfar-rule .ensures) (h .if1 .left))
+    (far-test (a .origin) (a .r) (a .far) (at .addresses .ensures) (c .before .before .far-counts .ensures) (c .before .far-rule .ensures)
+    (c .if2 .taken))
 
 trap-from-requires : tie.Need-trap-from-requires
 trap-from-requires c κs = search needs
@@ -85,8 +95,10 @@ returns-3 c =
     let a = at .before .args in
     ap Answer.Shown (c .trap-from .ensures ∙ ap (λ (k : Addresses). trapFrom k (a .r) (a .far) (a .hpfar)) (at .addresses .ensures))
     ∙ by-tests (a .origin) (a .edition) (a .r) (a .far) (a .hpfar)
-    (hpfar-test (a .edition) (a .r) (a .hpfar) (at .addresses .ensures) (h .before .before .hpfar-counts .ensures) (h .before .hpfar-rule .ensures) (h .if1 .left))
-    (far-test (a .origin) (a .r) (a .far) (at .addresses .ensures) (f .before .before .far-counts .ensures) (f .before .far-rule .ensures) (f .if2 .left))
+    (hpfar-test (a .edition) (a .r) (a .hpfar) (at .addresses .ensures) (h .before .before .hpfar-counts .ensures)
+    (h .before .hpfar-rule .ensures) (h .if1 .left))
+    (far-test (a .origin) (a .r) (a .far) (at .addresses .ensures) (f .before .before .far-counts .ensures) (f .before .far-rule .ensures)
+    (f .if2 .left))
 
 pub answer-record-spec : {M : Type 1} → statement M
 answer-record-spec =

@@ -26,7 +26,8 @@ returns c =
     let at = c .before .before .before .before in
     let a = at .before .args in
     shows (a .origin) (a .esr) (a .edition) (a .far) (a .hpfar)
-    (c .answer-record .ensures ∙ sym (ap (λ (x : Read). answerRead (a .origin) (a .edition) x (a .far) (a .hpfar)) (sym (at .read .ensures .answer) ∙ c .before .before .r .given .1)))
+    (c .answer-record .ensures ∙ sym (ap (λ (x : Read). answerRead (a .origin) (a .edition) x (a .far) (a .hpfar))
+    (sym (at .read .ensures .answer) ∙ c .before .before .r .given .1)))
 
 returns-2 : tie.Need-returns-2
 unfolding answerOf
@@ -34,7 +35,8 @@ returns-2 c =
     let at = c .before .before .before in
     let a = at .before .args in
     shows (a .origin) (a .esr) (a .edition) (a .far) (a .hpfar)
-    (sym (ap (λ (x : Read). answerRead (a .origin) (a .edition) x (a .far) (a .hpfar)) (sym (at .read .ensures .answer) ∙ c .before .refusal .given .1)))
+    (sym (ap (λ (x : Read). answerRead (a .origin) (a .edition) x (a .far) (a .hpfar))
+    (sym (at .read .ensures .answer) ∙ c .before .refusal .given .1)))
 
 pub read-spec : {M : Type 1} → statement M
 read-spec =

@@ -17,7 +17,8 @@ use Rattle.trap.proofs.Shown.{same-trap}
 use Rattle.trap.proofs.read_both.Statement.{statement}
 use Rattle.trap.proofs.read_both.Tie as tie
 
-both-shown : (o : Origin) (first second : ℕ) (esr : Esr) (far : Far) (hpfar : Hpfar) (t s : Trap) → answerOf o first esr far hpfar ≡ Answer.Shown t
+both-shown : (o : Origin) (first second : ℕ) (esr : Esr) (far : Far) (hpfar : Hpfar) (t s : Trap)
+    → answerOf o first esr far hpfar ≡ Answer.Shown t
     → answerOf o second esr far hpfar ≡ Answer.Shown s → Both.Shown t s ≡ bothOf o first second esr far hpfar
 unfolding bothOf
 both-shown o first second esr far hpfar t s one other =
@@ -44,15 +45,18 @@ enum-known-refusal-2 c = search needs
 returns : tie.Need-returns
 returns c =
     let a = c .before .before .before .before .before .before .before .before .args in
-    let first = sym (c .before .before .before .before .before .before .before .read .ensures .answer) ∙ c .before .before .before .before .before .trap .given .1 in
+    let first = sym (c .before .before .before .before .before .before .before .read .ensures .answer)
+    ∙ c .before .before .before .before .before .trap .given .1 in
     let second = sym (c .before .before .before .read2 .ensures .answer) ∙ c .before .other .given .1 in
-    shows-both (a .origin) (a .first) (a .second) (a .esr) (a .far) (a .hpfar) (both-shown (a .origin) (a .first) (a .second) (a .esr) (a .far) (a .hpfar) _ _ first second)
+    shows-both (a .origin) (a .first) (a .second) (a .esr) (a .far) (a .hpfar)
+    (both-shown (a .origin) (a .first) (a .second) (a .esr) (a .far) (a .hpfar) _ _ first second)
 
 returns-2 : tie.Need-returns-2
 unfolding bothOf
 returns-2 c =
     let a = c .before .before .before .before .before .before .before .before .args in
-    let first = sym (c .before .before .before .before .before .before .before .read .ensures .answer) ∙ c .before .before .before .before .before .trap .given .1 in
+    let first = sym (c .before .before .before .before .before .before .before .read .ensures .answer)
+    ∙ c .before .before .before .before .before .trap .given .1 in
     let second = sym (c .before .before .before .read2 .ensures .answer) ∙ c .before .refusal .given .1 in
     shows-both (a .origin) (a .first) (a .second) (a .esr) (a .far) (a .hpfar) (sym (ap₂ bothFrom first second))
 
@@ -61,7 +65,8 @@ unfolding bothOf
 returns-3 c =
     let a = c .before .before .before .before .args in
     shows-both (a .origin) (a .first) (a .second) (a .esr) (a .far) (a .hpfar)
-    (sym (ap (λ (x : Answer). bothFrom x (answerOf (a .origin) (a .second) (a .esr) (a .far) (a .hpfar))) (sym (c .before .before .before .read .ensures .answer) ∙ c .before .refusal2 .given .1)))
+    (sym (ap (λ (x : Answer). bothFrom x (answerOf (a .origin) (a .second) (a .esr) (a .far) (a .hpfar)))
+    (sym (c .before .before .before .read .ensures .answer) ∙ c .before .refusal2 .given .1)))
 
 pub read-both-spec : {M : Type 1} → statement M
 read-both-spec =

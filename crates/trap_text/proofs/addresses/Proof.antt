@@ -37,7 +37,9 @@ same-length c = search needs
 returns : tie.Need-returns
 returns c =
     rw (ap takenText (c .before .before .before .before .before .before .before .before .before .t .given .1))
-    (appends-both (appends-both (c .before .before .before .before .before .before .before .before .before .before .before .before .before .append .ensures) (c .before .before .before .before .before .before .virtual-field .ensures)) (c .before .before .intermediate-field .ensures))
+    (appends-both (appends-both (c .before .before .before .before .before .before .before .before .before .before .before .before .before
+    .append .ensures) (c .before .before .before .before .before .before .virtual-field .ensures))
+    (c .before .before .intermediate-field .ensures))
 
 same-length-2 : tie.Need-same-length-2
 same-length-2 c = search needs
@@ -45,7 +47,8 @@ same-length-2 c = search needs
 returns-2 : tie.Need-returns-2
 returns-2 c =
     rw (ap takenText (c .before .before .before .before .before .t2 .given .1))
-    (appends-both (appends-both (c .before .before .before .before .before .before .before .before .before .append .ensures) (c .before .before .virtual-field2 .ensures)) (appends-none _ _))
+    (appends-both (appends-both (c .before .before .before .before .before .before .before .before .before .append .ensures)
+    (c .before .before .virtual-field2 .ensures)) (appends-none _ _))
 
 same-length-3 : tie.Need-same-length-3
 same-length-3 c = search needs

@@ -41,13 +41,15 @@ same-length : tie.Need-same-length
 same-length c = search needs
 
 returns-2 : tie.Need-returns-2
-returns-2 c = rw (ap intermediateText (c .before .before .before .before .before .before .before .before .before .before .address .given .1)) (appends-both (c .before .before .before .before .before .before .append .ensures) (c .before .before .hex-field .ensures))
+returns-2 c = rw (ap intermediateText (c .before .before .before .before .before .before .before .before .before .before .address .given
+    .1)) (appends-both (c .before .before .before .before .before .before .append .ensures) (c .before .before .hex-field .ensures))
 
 same-length-2 : tie.Need-same-length-2
 same-length-2 c = search needs
 
 returns-3 : tie.Need-returns-3
-returns-3 c = rw (ap intermediateText (c .before .before .before .before .before .before .before .before .before .before .address2 .given .1)) (appends-both (c .before .before .before .before .before .before .append2 .ensures) (c .before .before .hex-field2 .ensures))
+returns-3 c = rw (ap intermediateText (c .before .before .before .before .before .before .before .before .before .before .address2 .given
+    .1)) (appends-both (c .before .before .before .before .before .before .append2 .ensures) (c .before .before .hex-field2 .ensures))
 
 pub intermediate-field-spec : {M : Type 1} → statement M
 intermediate-field-spec =

@@ -43,8 +43,13 @@ same-length c = search needs
 
 returns : tie.Need-returns
 returns c =
-    appends-both (appends-both (appends-both (c .before .before .before .before .before .before .before .before .before .before .before .before .before .before .before .before .before .append .ensures) (rw (c .before .before .before .before .before .before .before .before .before .before .before .before .before .number .ensures) at (c .before .before .before .before .before .before .before .before .before .before .before .before .decimal-field .ensures)))
-    (rw (c .before .before .before .before .before .before .before .before .mask .ensures) at (c .before .before .before .before .before .before .before .decimal-field2 .ensures))) (rw (c .before .before .before .count .ensures) at (c .before .before .decimal-field3 .ensures))
+    appends-both (appends-both (appends-both (c .before .before .before .before .before .before .before .before .before .before .before
+    .before .before .before .before .before .before .append .ensures)
+    (rw (c .before .before .before .before .before .before .before .before .before .before .before .before .before .number .ensures) at
+    (c .before .before .before .before .before .before .before .before .before .before .before .before .decimal-field .ensures)))
+    (rw (c .before .before .before .before .before .before .before .before .mask .ensures) at
+    (c .before .before .before .before .before .before .before .decimal-field2 .ensures)))
+    (rw (c .before .before .before .count .ensures) at (c .before .before .decimal-field3 .ensures))
 
 pub refusal-spec : {M : Type 1} → statement M
 refusal-spec =

@@ -31,8 +31,11 @@ same-length c = search needs
 
 returns : tie.Need-returns
 returns c =
-    appends-both (appends-both (appends-both (c .before .before .before .before .before .before .before .before .before .before .before .before .before .before .before .before .append .ensures) (c .before .before .before .before .before .before .before .before .before .before .before .before .decimal-field .ensures))
-    (rw (c .before .before .before .before .before .before .before .before .read .ensures .answer) at (c .before .before .before .before .before .before .before .answer .ensures))) (c .before .before .append2 .ensures)
+    appends-both (appends-both (appends-both (c .before .before .before .before .before .before .before .before .before .before .before
+    .before .before .before .before .before .append .ensures)
+    (c .before .before .before .before .before .before .before .before .before .before .before .before .decimal-field .ensures))
+    (rw (c .before .before .before .before .before .before .before .before .read .ensures .answer) at
+    (c .before .before .before .before .before .before .before .answer .ensures))) (c .before .before .append2 .ensures)
 
 pub shown-line-spec : {M : Type 1} → statement M
 shown-line-spec =

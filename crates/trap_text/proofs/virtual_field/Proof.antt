@@ -26,7 +26,8 @@ same-length : tie.Need-same-length
 same-length c = search needs
 
 returns : tie.Need-returns
-returns c = rw (ap virtualText (c .before .before .before .before .before .before .before .before .before .before .address .given .1)) (appends-both (c .before .before .before .before .before .before .append .ensures) (c .before .before .hex-field .ensures))
+returns c = rw (ap virtualText (c .before .before .before .before .before .before .before .before .before .before .address .given .1))
+    (appends-both (c .before .before .before .before .before .before .append .ensures) (c .before .before .hex-field .ensures))
 
 returns-2 : tie.Need-returns-2
 returns-2 c = rw (ap virtualText (c .enum-told .given .1)) (appends-none _ _)

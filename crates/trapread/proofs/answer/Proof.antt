@@ -40,7 +40,8 @@ append-requires-2 : tie.Need-append-requires-2
 append-requires-2 c κs = search needs
 
 -- the line asks, and the reader's answer is known
-told : {line : Line} {answer known : Read} {edition word : ℕ} → line ≡ Line.Question edition word → answer ≡ readOf Origin.AArch32 edition (record { 0 = word }) → answer ≡ known
+told : {line : Line} {answer known : Read} {edition word : ℕ} → line ≡ Line.Question edition word
+    → answer ≡ readOf Origin.AArch32 edition (record { 0 = word }) → answer ≡ known
     → answerText line ≡ readText known
 told q a k = ap answerText q ∙ ap readText (sym a ∙ k)
 
@@ -50,7 +51,8 @@ same-length c = search needs
 returns : tie.Need-returns
 returns c =
     let read = c .before .before .before .before .before .before .before in
-    rw (told (read .before .before .line .given .1) (read .read .ensures .answer) (c .before .before .before .before .before .enum-told .given .1)) (c .before .before .append .ensures)
+    rw (told (read .before .before .line .given .1) (read .read .ensures .answer)
+    (c .before .before .before .before .before .enum-told .given .1)) (c .before .before .append .ensures)
 
 same-length-2 : tie.Need-same-length-2
 same-length-2 c = search needs
@@ -58,7 +60,8 @@ same-length-2 c = search needs
 returns-2 : tie.Need-returns-2
 returns-2 c =
     let read = c .before .before .before .before .before .before .before in
-    rw (told (read .before .before .line .given .1) (read .read .ensures .answer) (c .before .before .before .before .before .refusal .given .1)) (c .before .before .refused .ensures)
+    rw (told (read .before .before .line .given .1) (read .read .ensures .answer)
+    (c .before .before .before .before .before .refusal .given .1)) (c .before .before .refused .ensures)
 
 same-length-3 : tie.Need-same-length-3
 same-length-3 c = search needs

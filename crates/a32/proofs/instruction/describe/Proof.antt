@@ -22,7 +22,8 @@ returns-2 : tie.Need-returns-2
 returns-2 c =
     let tested = c .before .before in
     let a = tested .before .before .args in
-    thumb (a .state) (a .word) (sym (tested .before .sound .ensures) ∙ not-false _ (tested .if1 .left)) (sym (c .before .t32 .ensures) ∙ c .if2 .taken)
+    thumb (a .state) (a .word) (sym (tested .before .sound .ensures) ∙ not-false _ (tested .if1 .left))
+    (sym (c .before .t32 .ensures) ∙ c .if2 .taken)
 
 decode-requires : tie.Need-decode-requires
 decode-requires c κs = search needs
@@ -54,7 +55,8 @@ returns-3 c =
     let tested = set .before in
     let a = tested .before .before .args in
     taken (a .state) (a .word) (sym (tested .before .sound .ensures) ∙ not-false _ (tested .if1 .left))
-    (sym (set .t32 .ensures) ∙ read .before .if2 .left) (read .decode .ensures .answer) (told .f .given .1) (c .before .field32 .ensures) (c .access-in .ensures)
+    (sym (set .t32 .ensures) ∙ read .before .if2 .left) (read .decode .ensures .answer) (told .f .given .1) (c .before .field32 .ensures)
+    (c .access-in .ensures)
     (held .registers-of .ensures)
 
 returns-4 : tie.Need-returns-4
@@ -63,7 +65,8 @@ returns-4 c =
     let set = read .before .before in
     let tested = set .before in
     let a = tested .before .before .args in
-    unformed (a .state) (a .word) (sym (tested .before .sound .ensures) ∙ not-false _ (tested .if1 .left)) (sym (set .t32 .ensures) ∙ read .before .if2 .left)
+    unformed (a .state) (a .word) (sym (tested .before .sound .ensures) ∙ not-false _ (tested .if1 .left))
+    (sym (set .t32 .ensures) ∙ read .before .if2 .left)
     (read .decode .ensures .answer) (c .enum-told .given .1)
 
 pub describe-spec : {M : Type 1} → statement M

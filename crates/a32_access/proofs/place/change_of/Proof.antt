@@ -26,7 +26,8 @@ returns : tie.Need-returns
 returns c =
     let tested = c .before .before in
     let a = tested .before .before .args in
-    c .signed-by .ensures ∙ ap (λ (u : Bool). signedBy u (a .size)) (c .before .up .ensures) ∙ chosen (a .f) (a .size) (tested .before .back .ensures) (tested .if1 .taken)
+    c .signed-by .ensures ∙ ap (λ (u : Bool). signedBy u (a .size)) (c .before .up .ensures)
+    ∙ chosen (a .f) (a .size) (tested .before .back .ensures) (tested .if1 .taken)
 
 returns-2 : tie.Need-returns-2
 returns-2 c = let a = c .before .before .args in chosen (a .f) (a .size) (c .before .back .ensures) (c .if1 .left)

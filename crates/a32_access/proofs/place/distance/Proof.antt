@@ -29,16 +29,19 @@ list-distance-requires : tie.Need-list-distance-requires
 list-distance-requires c κs = search needs
 
 returns : tie.Need-returns
-returns c = at-arm (λ (f : Fields). distanceOf f (c .before .before .before .before .args .size)) (c .indexed .ensures) (c .before .before .f .given .1)
+returns c = at-arm (λ (f : Fields). distanceOf f (c .before .before .before .before .args .size)) (c .indexed .ensures)
+    (c .before .before .f .given .1)
 
 returns-2 : tie.Need-returns-2
-returns-2 c = at-arm (λ (f : Fields). distanceOf f (c .before .before .before .before .args .size)) (c .indexed2 .ensures) (c .before .before .f2 .given .1)
+returns-2 c = at-arm (λ (f : Fields). distanceOf f (c .before .before .before .before .args .size)) (c .indexed2 .ensures)
+    (c .before .before .f2 .given .1)
 
 returns-3 : tie.Need-returns-3
 returns-3 c = search needs
 
 returns-4 : tie.Need-returns-4
-returns-4 c = at-arm (λ (f : Fields). distanceOf f (c .before .before .before .before .args .size)) (c .list-distance .ensures) (c .before .before .f4 .given .1)
+returns-4 c = at-arm (λ (f : Fields). distanceOf f (c .before .before .before .before .args .size)) (c .list-distance .ensures)
+    (c .before .before .f4 .given .1)
 
 pub distance-spec : {M : Type 1} → statement M
 distance-spec =

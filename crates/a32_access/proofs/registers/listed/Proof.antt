@@ -1,5 +1,5 @@
--- `a32_access::registers::listed` meets its contract. The invariant: the numbers are the registers of the list below n, and `count` is how many they are.
--- Assumes nothing.
+-- `a32_access::registers::listed` meets its contract. The invariant: the numbers are the registers of the list below n, and `count` is how
+-- many they are. Assumes nothing.
 use borrow.Author.Needs.{needs}
 use mathlib.Core.Path.{_≡_, refl, _∙_, sym, ap, ap₂}
 use mathlib.Core.Bool.{true, false}
@@ -23,7 +23,8 @@ abbrev μ-loop : tie.MeasureT-loop
 μ-loop list numbers₀ count₀ n₀ numbers count n = 16 - n
 
 -- the next register, in the list or not
-module _ (list n count : ℕ) (numbers : List ℕ) (counted : count ≡ length (listedBelow n list)) (held : numbers ≡ padded 16 (listedBelow n list)) where
+module _ (list n count : ℕ) (numbers : List ℕ) (counted : count ≡ length (listedBelow n list))
+    (held : numbers ≡ padded 16 (listedBelow n list)) where
   put : bitOf list n ≡ true → (count + 1 ≡ length (listedBelow (n + 1) list)) × (set numbers count n ≡ padded 16 (listedBelow (n + 1) list))
   put h =
       let more = listed-in n list h in (
@@ -47,7 +48,8 @@ bit-requires c κs = search needs
 mul-numbers : tie.Need-mul-numbers Inv-loop μ-loop
 mul-numbers c =
     let at = c .before .before .before in
-    let l = few (at .before .args .list) (at .loop .n) (at .loop .count) (at .loop .numbers) (at .loop .inv .1) (at .loop .inv .2) (omega arith) in
+    let l = few (at .before .args .list) (at .loop .n) (at .loop .count) (at .loop .numbers) (at .loop .inv .1) (at .loop .inv .2)
+    (omega arith) in
     omega arith
 
 array-write-numbers : tie.Need-array-write-numbers Inv-loop μ-loop
@@ -58,7 +60,8 @@ array-write-numbers c =
 add-count : tie.Need-add-count Inv-loop μ-loop
 add-count c =
     let at = c .before .before .before in
-    let l = few (at .before .args .list) (at .loop .n) (at .loop .count) (at .loop .numbers) (at .loop .inv .1) (at .loop .inv .2) (omega arith) in
+    let l = few (at .before .args .list) (at .loop .n) (at .loop .count) (at .loop .numbers) (at .loop .inv .1) (at .loop .inv .2)
+    (omega arith) in
     omega arith
 
 add-n : tie.Need-add-n Inv-loop μ-loop

@@ -26,7 +26,8 @@ returns : tie.Need-returns
 returns c =
     let t = c .before .before .before .args .rt in
     ap (λ (n : ℕ). padded 16 (t ∷ n ∷ [])) (c .wrapping-add-u32 .ensures)
-    ∙ told (λ (b : Bool). padded 16 (cond b (t ∷ (t + 1) % 2 ^ 32 ∷ []) (t ∷ []))) (sym (c .before .before .dual .ensures) ∙ c .before .if1 .taken)
+    ∙ told (λ (b : Bool). padded 16 (cond b (t ∷ (t + 1) % 2 ^ 32 ∷ []) (t ∷ [])))
+    (sym (c .before .before .dual .ensures) ∙ c .before .if1 .taken)
 
 returns-2 : tie.Need-returns-2
 returns-2 c =

@@ -61,7 +61,8 @@ returns-3 : tie.Need-returns-3
 returns-3 c =
     let at = c .before .before .before .before in
     let a = at .before .before .args in
-    sym (List·getD-eq-default (a .t1) 0 (omega arith)) ∙ as-held (a .t1) (a .pc) (a .mode) (a .number) (at .before .if1 .left) (at .held-in .ensures) (c .before .before .n .given .1)
+    sym (List·getD-eq-default (a .t1) 0 (omega arith))
+    ∙ as-held (a .t1) (a .pc) (a .mode) (a .number) (at .before .if1 .left) (at .held-in .ensures) (c .before .before .n .given .1)
 
 returns-4 : tie.Need-returns-4
 returns-4 c =

@@ -17,7 +17,8 @@ offset-requires c κs = search needs
 returns : tie.Need-returns
 returns c =
     let r = c .before .before .args .r in
-    c .offset .ensures ∙ ap (λ (k : Code). joinedFrom 0 (offsetFields k (r .cond) (r .p) (r .u) (r .w) (r .rn) (r .rt) (r .imm))) (c .before .code .ensures)
+    c .offset .ensures ∙ ap (λ (k : Code). joinedFrom 0 (offsetFields k (r .cond) (r .p) (r .u) (r .w) (r .rn) (r .rt) (r .imm)))
+    (c .before .code .ensures)
 
 pub immediate-spec : {M : Type 1} → statement M
 immediate-spec = tie.close (tie.spec code-requires offset-requires returns)

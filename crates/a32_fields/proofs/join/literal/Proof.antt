@@ -18,7 +18,8 @@ offset-requires c κs = search needs
 returns : tie.Need-returns
 returns c =
     let r = c .before .before .args .r in
-    c .offset .ensures ∙ ap (λ (k : Code). joinedFrom 0 (offsetFields k (r .cond) true (r .u) false 15 (r .rt) (r .imm))) (c .before .code .ensures)
+    c .offset .ensures ∙ ap (λ (k : Code). joinedFrom 0 (offsetFields k (r .cond) true (r .u) false 15 (r .rt) (r .imm)))
+    (c .before .code .ensures)
 
 pub literal-spec : {M : Type 1} → statement M
 literal-spec = tie.close (tie.spec code-requires offset-requires returns)

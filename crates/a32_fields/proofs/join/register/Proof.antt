@@ -17,7 +17,8 @@ index-requires c κs = search needs
 returns : tie.Need-returns
 returns c =
     let r = c .before .before .args .r in
-    c .index .ensures ∙ ap (λ (k : Code). joinedFrom 0 (indexFields k (r .cond) (r .p) (r .u) (r .w) (r .rn) (r .rt) (r .rm))) (c .before .code .ensures)
+    c .index .ensures ∙ ap (λ (k : Code). joinedFrom 0 (indexFields k (r .cond) (r .p) (r .u) (r .w) (r .rn) (r .rt) (r .rm)))
+    (c .before .code .ensures)
 
 pub register-spec : {M : Type 1} → statement M
 register-spec = tie.close (tie.spec code-requires index-requires returns)

@@ -13,7 +13,8 @@ use Rattle.a32_fields.proofs.split.extra_at.Statement.{statement}
 use Rattle.a32_fields.proofs.split.extra_at.Tie as tie
 
 abbrev chosen : ℕ → Bool → Fields
-chosen w b = cond b (offsetAt (extraTransferAt w) (fieldOf w 11 8 * 16 + fieldOf w 3 0) w) (Fields.Register (registerAt (extraTransferAt w) w))
+chosen w b = cond b (offsetAt (extraTransferAt w) (fieldOf w 11 8 * 16 + fieldOf w 3 0) w)
+    (Fields.Register (registerAt (extraTransferAt w) w))
 
 at : (w : ℕ) {b d : Bool} → b ≡ d → chosen w d ≡ chosen w b
 at w = told (chosen w)

@@ -26,16 +26,20 @@ immediate-at-requires c κs = search needs
 returns : tie.Need-returns
 returns c =
     let a = c .before .before .before .before .args in
-    let chosen = sym (ap₂ (λ (l : Bool) (n : ℕ). l && eqb n 15) (c .before .before .before .loads .ensures) (c .before .before .field32 .ensures)) ∙ c .before .if1 .taken in
+    let chosen = sym (ap₂ (λ (l : Bool) (n : ℕ). l && eqb n 15) (c .before .before .before .loads .ensures)
+    (c .before .before .field32 .ensures)) ∙ c .before .if1 .taken in
     ap Fields.Literal (c .literal-at .ensures)
-    ∙ told (λ (b : Bool). cond b (Fields.Literal (literalAt (a .transfer) (a .imm) (a .word))) (Fields.Immediate (immediateAt (a .transfer) (a .imm) (a .word)))) chosen
+    ∙ told (λ (b : Bool). cond b (Fields.Literal (literalAt (a .transfer) (a .imm) (a .word)))
+    (Fields.Immediate (immediateAt (a .transfer) (a .imm) (a .word)))) chosen
 
 returns-2 : tie.Need-returns-2
 returns-2 c =
     let a = c .before .before .before .before .args in
-    let chosen = sym (ap₂ (λ (l : Bool) (n : ℕ). l && eqb n 15) (c .before .before .before .loads .ensures) (c .before .before .field32 .ensures)) ∙ c .before .if1 .left in
+    let chosen = sym (ap₂ (λ (l : Bool) (n : ℕ). l && eqb n 15) (c .before .before .before .loads .ensures)
+    (c .before .before .field32 .ensures)) ∙ c .before .if1 .left in
     ap Fields.Immediate (c .immediate-at .ensures)
-    ∙ told (λ (b : Bool). cond b (Fields.Literal (literalAt (a .transfer) (a .imm) (a .word))) (Fields.Immediate (immediateAt (a .transfer) (a .imm) (a .word)))) chosen
+    ∙ told (λ (b : Bool). cond b (Fields.Literal (literalAt (a .transfer) (a .imm) (a .word)))
+    (Fields.Immediate (immediateAt (a .transfer) (a .imm) (a .word)))) chosen
 
 pub offset-at-spec : {M : Type 1} → statement M
 offset-at-spec =

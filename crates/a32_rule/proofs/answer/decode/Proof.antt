@@ -19,7 +19,8 @@ returns : tie.Need-returns
 returns c =
     let put = c .before .before .before in
     let start = put .before .before in
-    taken (start .args .word) (put .before .fields-at .ensures) (put .joined .ensures) (c .before .before .if1 .taken) (c .before .legal .ensures) (c .if2 .taken)
+    taken (start .args .word) (put .before .fields-at .ensures) (put .joined .ensures) (c .before .before .if1 .taken)
+    (c .before .legal .ensures) (c .if2 .taken)
 
 returns-2 : tie.Need-returns-2
 returns-2 c =

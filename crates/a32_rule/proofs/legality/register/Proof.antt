@@ -14,7 +14,8 @@ register-rule-requires c κs = search needs
 returns : tie.Need-returns
 returns c =
     let r = c .before .before .before .before .before .before .before .before .before .args .r in
-    ap (λ (g : Bool). ltb (r .cond) 15 && ltb (r .rn) 16 && ltb (r .rt) 16 && ltb (r .rm) 16 && ((r .p || not (r .w)) && g)) (c .register-rule .ensures)
+    ap (λ (g : Bool). ltb (r .cond) 15 && ltb (r .rn) 16 && ltb (r .rt) 16 && ltb (r .rm) 16 && ((r .p || not (r .w)) && g))
+    (c .register-rule .ensures)
     ∙ sym (legal-register r)
 
 pub register-spec : {M : Type 1} → statement M

@@ -34,7 +34,8 @@ returns c =
     let t = a .rt in
     (λ i. not (c .before .before .before .dual .ensures i && c .before .before .loads .ensures i && (eqb m t || eqb m (t + 1)))
     && c .before .target-rule .ensures i && not (eqb m 15) && c .back-rule .ensures i)
-    ∙ ap (λ (b : Bool). not (dual (a .transfer) && loads (a .transfer) && b) && targetRule (a .transfer) t && not (eqb m 15) && backRule (a .back) (a .rn) (transferredBy (a .transfer) t)) (or-two (eqb m t) (eqb m (t + 1)))
+    ∙ ap (λ (b : Bool). not (dual (a .transfer) && loads (a .transfer) && b) && targetRule (a .transfer) t && not (eqb m 15)
+    && backRule (a .back) (a .rn) (transferredBy (a .transfer) t)) (or-two (eqb m t) (eqb m (t + 1)))
     ∙ register-by (a .back) (a .rn) t m (a .transfer)
 
 pub register-rule-spec : {M : Type 1} → statement M

@@ -32,13 +32,16 @@ narrow-requires : tie.Need-narrow-requires
 narrow-requires c κs = search needs
 
 returns : tie.Need-returns
-returns c = c .pair-rule .ensures ∙ by-dual (c .before .before .before .args .transfer) (c .before .before .before .args .rt) (sym (c .before .before .dual .ensures) ∙ c .before .if1 .taken)
+returns c = c .pair-rule .ensures ∙ by-dual (c .before .before .before .args .transfer) (c .before .before .before .args .rt)
+    (sym (c .before .before .dual .ensures) ∙ c .before .if1 .taken)
 
 returns-2 : tie.Need-returns-2
-returns-2 c = by-narrow (c .before .before .before .before .args .transfer) (c .before .before .before .before .args .rt) (sym (c .before .before .before .dual .ensures) ∙ c .before .before .if1 .left) (sym (c .before .narrow .ensures) ∙ c .if2 .taken)
+returns-2 c = by-narrow (c .before .before .before .before .args .transfer) (c .before .before .before .before .args .rt)
+    (sym (c .before .before .before .dual .ensures) ∙ c .before .before .if1 .left) (sym (c .before .narrow .ensures) ∙ c .if2 .taken)
 
 returns-3 : tie.Need-returns-3
-returns-3 c = by-narrow (c .before .before .before .before .args .transfer) (c .before .before .before .before .args .rt) (sym (c .before .before .before .dual .ensures) ∙ c .before .before .if1 .left) (sym (c .before .narrow .ensures) ∙ c .if2 .left)
+returns-3 c = by-narrow (c .before .before .before .before .args .transfer) (c .before .before .before .before .args .rt)
+    (sym (c .before .before .before .dual .ensures) ∙ c .before .before .if1 .left) (sym (c .before .narrow .ensures) ∙ c .if2 .left)
 
 pub target-rule-spec : {M : Type 1} → statement M
 target-rule-spec =

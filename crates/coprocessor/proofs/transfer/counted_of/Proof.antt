@@ -23,7 +23,8 @@ transfer-of-requires c κs = search needs
 returns : tie.Need-returns
 returns c =
     let tested = c .before .before in
-    c .transfer-of .ensures ∙ by (tested .before .args .status) (tested .before .args .what) (tested .passes .ensures) (c .before .if1 .taken)
+    c .transfer-of .ensures ∙ by (tested .before .args .status) (tested .before .args .what) (tested .passes .ensures)
+    (c .before .if1 .taken)
 
 returns-2 : tie.Need-returns-2
 returns-2 c =

@@ -14,13 +14,17 @@ use Rattle.coprocessor.proofs.transfer.finish.Tie as tie
 passed-had : (c : tie.Else1) → had (c .before .before .args .what) ≡ true
 passed-had c = sym (c .before .had .ensures) ∙ not-false _ (c .if1 .left)
 
-passed-sound : (c : tie.Else2) → sound (c .before .before .before .before .before .args .state .marks) (c .before .before .before .before .before .args .state .status) ≡ true
+passed-sound : (c : tie.Else2) → sound (c .before .before .before .before .before .args .state .marks)
+    (c .before .before .before .before .before .args .state .status) ≡ true
 passed-sound c = sym (c .before .sound .ensures) ∙ not-false _ (c .if2 .left)
 
 -- past both tests, with the transfer in hand
 known : (c : tie.After-counted-of) {t : Transfer} → c .counted-of .result ≡ t
-    → byTransfer (c .before .before .before .before .before .before .args .state) t (c .before .before .before .before .before .before .args .first) (c .before .before .before .before .before .before .args .second)
-    ≡ finished (c .before .before .before .before .before .before .args .state) (c .before .before .before .before .before .before .args .what) (c .before .before .before .before .before .before .args .first) (c .before .before .before .before .before .before .args .second)
+    → byTransfer (c .before .before .before .before .before .before .args .state) t
+    (c .before .before .before .before .before .before .args .first) (c .before .before .before .before .before .before .args .second)
+    ≡ finished (c .before .before .before .before .before .before .args .state)
+    (c .before .before .before .before .before .before .args .what) (c .before .before .before .before .before .before .args .first)
+    (c .before .before .before .before .before .before .args .second)
 known c e =
     settled _ _ _ _ (passed-had (c .before .before .before .before)) (passed-sound (c .before)) (sym (c .counted-of .ensures) ∙ e)
 
@@ -31,7 +35,8 @@ returns : tie.Need-returns
 returns c =
     let start = c .before .before in
     promised (start .args .state) (start .args .what) (start .args .first) (start .args .second)
-    (no-edition (start .args .state) (start .args .what) (start .args .first) (start .args .second) (sym (c .before .had .ensures) ∙ not-true _ (c .if1 .taken)))
+    (no-edition (start .args .state) (start .args .what) (start .args .first) (start .args .second)
+    (sym (c .before .had .ensures) ∙ not-true _ (c .if1 .taken)))
 
 sound-requires : tie.Need-sound-requires
 sound-requires c κs = search needs
@@ -40,7 +45,8 @@ returns-2 : tie.Need-returns-2
 returns-2 c =
     let start = c .before .before .before .before .before in
     promised (start .args .state) (start .args .what) (start .args .first) (start .args .second)
-    (unsound (start .args .state) (start .args .what) (start .args .first) (start .args .second) (passed-had (c .before .before .before)) (sym (c .before .sound .ensures) ∙ not-true _ (c .if2 .taken)))
+    (unsound (start .args .state) (start .args .what) (start .args .first) (start .args .second) (passed-had (c .before .before .before))
+    (sym (c .before .sound .ensures) ∙ not-true _ (c .if2 .taken)))
 
 counted-of-requires : tie.Need-counted-of-requires
 counted-of-requires c κs = search needs

@@ -51,7 +51,8 @@ stepped-requires-2 c κs = search needs
 returns : tie.Need-returns
 returns c =
     let start = c .before .before .before .before .before .before in
-    reads (start .args .state) (start .args .x) (start .args .value) (c .before .before .status-after .ensures) (c .before .with-register .ensures) (c .stepped .ensures)
+    reads (start .args .state) (start .args .x) (start .args .value) (c .before .before .status-after .ensures)
+    (c .before .with-register .ensures) (c .stepped .ensures)
     ∙ by-direction (start .args .state) (start .args .x) (start .args .value) (c .before .before .before .if1 .taken)
 
 returns-2 : tie.Need-returns-2

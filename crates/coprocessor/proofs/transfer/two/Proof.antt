@@ -58,13 +58,15 @@ stepped-requires-2 c κs = search needs
 returns : tie.Need-returns
 returns c =
     let start = c .before .before .before .before .before .before .before in
-    reads (start .args .state) (start .args .x) (start .args .first) (start .args .second) (c .before .before .with-register .ensures) (c .before .with-register2 .ensures) (c .stepped .ensures)
+    reads (start .args .state) (start .args .x) (start .args .first) (start .args .second) (c .before .before .with-register .ensures)
+    (c .before .with-register2 .ensures) (c .stepped .ensures)
     ∙ by-direction (start .args .state) (start .args .x) (start .args .first) (start .args .second) (c .before .before .before .if1 .taken)
 
 returns-2 : tie.Need-returns-2
 returns-2 c =
     let start = c .before .before .before .before .before .before .before in
-    writes (start .args .state) (start .args .x) (start .args .first) (start .args .second) (c .before .before .register .ensures) (c .before .register2 .ensures) (c .stepped2 .ensures)
+    writes (start .args .state) (start .args .x) (start .args .first) (start .args .second) (c .before .before .register .ensures)
+    (c .before .register2 .ensures) (c .stepped2 .ensures)
     ∙ by-direction (start .args .state) (start .args .x) (start .args .first) (start .args .second) (c .before .before .before .if1 .left)
 
 pub two-spec : {M : Type 1} → statement M

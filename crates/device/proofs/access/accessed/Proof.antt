@@ -22,20 +22,23 @@ module _ (s : Guest) (r : DataAbort) (value : ℕ) where
   by-direction e = told (λ (b : Bool). cond b (stored s r) (loaded s r value)) e
 
   gives : {big : Bool} {held given : ℕ} {after : Guest} → big ≡ bigEndian (s .status) → held ≡ registerIn (s .regs) (r .srt)
-      → given ≡ transferred (r .sas) big held → after ≡ stepped s (s .regs) (r .il) → record { answer = Stored given; state = after } ≡ stored s r
+      → given ≡ transferred (r .sas) big held → after ≡ stepped s (s .regs) (r .il)
+      → record { answer = Stored given; state = after } ≡ stored s r
   gives b h g a =
       ap₂ (λ (n : ℕ) (x : Guest). record { answer = Stored n; state = x })
       (g ∙ ap₂ (transferred (r .sas)) b h)
       a
 
-  takes : {big : Bool} {passed got : ℕ} {regs : List ℕ} {after : Guest} → big ≡ bigEndian (s .status) → passed ≡ transferred (r .sas) big value
+  takes : {big : Bool} {passed got : ℕ} {regs : List ℕ} {after : Guest} → big ≡ bigEndian (s .status)
+      → passed ≡ transferred (r .sas) big value
       → got ≡ extended (r .sas) (r .sse) passed → regs ≡ withRegister (s .regs) (r .srt) got → after ≡ stepped s regs (r .il)
       → record { answer = Loaded; state = after } ≡ loaded s r value
   takes b p g w a =
       ap (λ (x : Guest). record { answer = Loaded; state = x })
       (a
       ∙ ap (λ (l : List ℕ). stepped s l (r .il))
-      (w ∙ ap (withRegister (s .regs) (r .srt)) (g ∙ ap (extended (r .sas) (r .sse)) (p ∙ ap (λ (x : Bool). transferred (r .sas) x value) b))))
+      (w ∙ ap (withRegister (s .regs) (r .srt)) (g
+      ∙ ap (extended (r .sas) (r .sse)) (p ∙ ap (λ (x : Bool). transferred (r .sas) x value) b))))
 
 cast-bit : tie.Need-cast-bit
 cast-bit c = search needs
@@ -70,13 +73,16 @@ stepped-requires-2 c κs = search needs
 returns : tie.Need-returns
 returns c =
     let start = c .before .before .before .before .before .before .before .before in
-    gives (start .args .state) (start .args .abort) (start .args .value) (c .before .before .before .before .before .bit .ensures) (c .before .before .register .ensures) (c .before .transferred .ensures) (c .stepped .ensures)
+    gives (start .args .state) (start .args .abort) (start .args .value) (c .before .before .before .before .before .bit .ensures)
+    (c .before .before .register .ensures) (c .before .transferred .ensures) (c .stepped .ensures)
     ∙ by-direction (start .args .state) (start .args .abort) (start .args .value) (c .before .before .before .if1 .taken)
 
 returns-2 : tie.Need-returns-2
 returns-2 c =
     let start = c .before .before .before .before .before .before .before .before .before in
-    takes (start .args .state) (start .args .abort) (start .args .value) (c .before .before .before .before .before .before .bit .ensures) (c .before .before .before .transferred2 .ensures) (c .before .before .extended .ensures) (c .before .with-register .ensures) (c .stepped2 .ensures)
+    takes (start .args .state) (start .args .abort) (start .args .value) (c .before .before .before .before .before .before .bit .ensures)
+    (c .before .before .before .transferred2 .ensures) (c .before .before .extended .ensures) (c .before .with-register .ensures)
+    (c .stepped2 .ensures)
     ∙ by-direction (start .args .state) (start .args .abort) (start .args .value) (c .before .before .before .before .if1 .left)
 
 pub accessed-spec : {M : Type 1} → statement M

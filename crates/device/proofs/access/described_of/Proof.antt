@@ -48,13 +48,15 @@ returns-4 : tie.Need-returns-4
 returns-4 c =
     let at = c .before .before .before .before in
     let abort = c .before .before .abort .given in
-    told (λ (b : Bool). cond b (Access (abort .0 .0)) Nothing) (c .if1 .taken) ∙ of-sort (at .before .args .what) (at .sort .ensures) (abort .1)
+    told (λ (b : Bool). cond b (Access (abort .0 .0)) Nothing) (c .if1 .taken)
+    ∙ of-sort (at .before .args .what) (at .sort .ensures) (abort .1)
 
 returns-5 : tie.Need-returns-5
 returns-5 c =
     let at = c .before .before .before .before in
     let abort = c .before .before .abort .given in
-    told (λ (b : Bool). cond b (Access (abort .0 .0)) Nothing) (c .if1 .left) ∙ of-sort (at .before .args .what) (at .sort .ensures) (abort .1)
+    told (λ (b : Bool). cond b (Access (abort .0 .0)) Nothing) (c .if1 .left)
+    ∙ of-sort (at .before .args .what) (at .sort .ensures) (abort .1)
 
 returns-6 : tie.Need-returns-6
 returns-6 c = of-sort (c .before .before .before .args .what) (c .before .before .sort .ensures) (c .enum-told4 .given .1)

@@ -14,13 +14,16 @@ use Rattle.device.proofs.access.finish.Tie as tie
 passed-had : (c : tie.Else1) → had (c .before .before .args .what) ≡ true
 passed-had c = sym (c .before .had .ensures) ∙ not-false _ (c .if1 .left)
 
-passed-sound : (c : tie.Else2) → sound (c .before .before .before .before .before .args .state .marks) (c .before .before .before .before .before .args .state .status) ≡ true
+passed-sound : (c : tie.Else2) → sound (c .before .before .before .before .before .args .state .marks)
+    (c .before .before .before .before .before .args .state .status) ≡ true
 passed-sound c = sym (c .before .sound .ensures) ∙ not-false _ (c .if2 .left)
 
 -- past both tests, with the description in hand
 known : (c : tie.After-described-of) {d : Described} → c .described-of .result ≡ d
-    → byDescription (c .before .before .before .before .before .before .args .state) d (c .before .before .before .before .before .before .args .value)
-    ≡ finished (c .before .before .before .before .before .before .args .state) (c .before .before .before .before .before .before .args .what) (c .before .before .before .before .before .before .args .value)
+    → byDescription (c .before .before .before .before .before .before .args .state) d
+    (c .before .before .before .before .before .before .args .value)
+    ≡ finished (c .before .before .before .before .before .before .args .state)
+    (c .before .before .before .before .before .before .args .what) (c .before .before .before .before .before .before .args .value)
 known c e =
     settled _ _ _ (passed-had (c .before .before .before .before)) (passed-sound (c .before)) (sym (c .described-of .ensures) ∙ e)
 
@@ -40,7 +43,8 @@ returns-2 : tie.Need-returns-2
 returns-2 c =
     let start = c .before .before .before .before .before in
     promised (start .args .state) (start .args .what) (start .args .value)
-    (unsound (start .args .state) (start .args .what) (start .args .value) (passed-had (c .before .before .before)) (sym (c .before .sound .ensures) ∙ not-true _ (c .if2 .taken)))
+    (unsound (start .args .state) (start .args .what) (start .args .value) (passed-had (c .before .before .before))
+    (sym (c .before .sound .ensures) ∙ not-true _ (c .if2 .taken)))
 
 described-of-requires : tie.Need-described-of-requires
 described-of-requires c κs = search needs

@@ -23,8 +23,10 @@ module _ (s : Guest) (row : Row) (faults : FaultRegisters) where
   link p q e = e ∙ ap (λ (k : Signed). sumOf (s .pc) (signed k)) (q ∙ ap (correctionIn row) p)
 
   all : {regs : List ℕ} {saved : Saved} {l status base pc : ℕ} → l ≡ linkFrom s row → regs ≡ withRegister (s .regs) (row .link) l
-      → saved ≡ savedIn (row .mode) (s .saved) (s .status) → status ≡ entryStatus (s .marks) (row .mode) (row .a) (row .f) (s .status) (s .sctlr)
-      → base ≡ vectorBase (s .sctlr) (s .vbar) → pc ≡ (base + row .vector) % 2 ^ 32 → changed s regs pc status saved faults ≡ entered s row faults
+      → saved ≡ savedIn (row .mode) (s .saved) (s .status)
+      → status ≡ entryStatus (s .marks) (row .mode) (row .a) (row .f) (s .status) (s .sctlr)
+      → base ≡ vectorBase (s .sctlr) (s .vbar) → pc ≡ (base + row .vector) % 2 ^ 32
+      → changed s regs pc status saved faults ≡ entered s row faults
   unfolding entered
   all e r v t b p =
       changed-same s (r ∙ ap (withRegister (s .regs) (row .link)) e) (p ∙ ap (λ (x : ℕ). (x + row .vector) % 2 ^ 32) b) t v refl

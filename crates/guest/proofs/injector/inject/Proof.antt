@@ -22,13 +22,16 @@ use Rattle.guest.proofs.injector.inject.Statement.{statement}
 use Rattle.guest.proofs.injector.inject.Tie as tie
 
 -- past the first test
-passed-sound : (c : tie.Else1) → sound (c .before .before .before .args .state .marks) (c .before .before .before .args .state .status) ≡ true
+passed-sound : (c : tie.Else1) → sound (c .before .before .before .args .state .marks) (c .before .before .before .args .state .status)
+    ≡ true
 passed-sound c = sym (c .before .sound .ensures) ∙ not-false _ (c .if1 .left)
 
 -- past both, with the report in hand
 settled : (c : tie.After-report-of) {r : Report} → c .report-of .result ≡ r
-    → result (c .before .before .before .before .before .before .before .args .state) (c .before .before .before .before .before .before .before .args .what) (answerBy r)
-    ≡ injected (c .before .before .before .before .before .before .before .args .state) (c .before .before .before .before .before .before .before .args .what)
+    → result (c .before .before .before .before .before .before .before .args .state)
+    (c .before .before .before .before .before .before .before .args .what) (answerBy r)
+    ≡ injected (c .before .before .before .before .before .before .before .args .state)
+    (c .before .before .before .before .before .before .before .args .what)
 settled c e =
     let tested = c .before .before in
     by-answer _ _
@@ -39,7 +42,8 @@ abbrev took : Guest → Injected
 took s = record { answer = Accepted; state = s }
 
 -- the state that was entered is the one after the injection
-taken : (s : Guest) (i : Injection) {row : Row} {f : FaultRegisters} {r : Guest} → row ≡ injectionRow i → reportOf i (s .faults) (s .ttbcr) ≡ Registers f
+taken : (s : Guest) (i : Injection) {row : Row} {f : FaultRegisters} {r : Guest} → row ≡ injectionRow i
+    → reportOf i (s .faults) (s .ttbcr) ≡ Registers f
     → r ≡ entered s row f → took r ≡ result s i Accepted
 taken s i {f = f} p q e =
     ap took
@@ -65,7 +69,8 @@ returns-2 c =
     let start = c .before .before .before .before .before in
     promised (start .args .state) (start .args .what)
     (by-answer (start .args .state) (start .args .what)
-    (unaligned (start .args .state) (start .args .what) (passed-sound (c .before .before)) (sym (c .before .aligned .ensures) ∙ not-true _ (c .if2 .taken))))
+    (unaligned (start .args .state) (start .args .what) (passed-sound (c .before .before))
+    (sym (c .before .aligned .ensures) ∙ not-true _ (c .if2 .taken))))
 
 report-of-requires : tie.Need-report-of-requires
 report-of-requires c κs = search needs
@@ -103,7 +108,8 @@ returns-6 c =
     let e = c .before .before .before .faults .given .1 in
     let start = past .before .before .before .before .before .before .before in
     promised (start .args .state) (start .args .what)
-    (taken (start .args .state) (start .args .what) (c .before .injection-row .ensures) (sym (past .report-of .ensures) ∙ e) (c .enter .ensures)
+    (taken (start .args .state) (start .args .what) (c .before .injection-row .ensures) (sym (past .report-of .ensures) ∙ e)
+    (c .enter .ensures)
     ∙ settled past e)
 
 pub inject-spec : {M : Type 1} → statement M

@@ -31,7 +31,8 @@ returns c =
     let told = c .before .before in
     let args = told .before .args in
     let access = args .access in
-    unwritable (accessWrites (args .old)) (dfsrIn access (args .ttbcr)) (told .dfsr-word .ensures) (leb (access .domain) 15) (access .address)
+    unwritable (accessWrites (args .old)) (dfsrIn access (args .ttbcr)) (told .dfsr-word .ensures) (leb (access .domain) 15)
+    (access .address)
     (sym (c .before .is-code .ensures) ∙ not-true _ (c .if1 .taken))
 
 returns-2 : tie.Need-returns-2
@@ -40,7 +41,8 @@ returns-2 c =
     let told = coded .before .before in
     let args = told .before .args in
     let access = args .access in
-    wide-domain (accessWrites (args .old)) (dfsrIn access (args .ttbcr)) (told .dfsr-word .ensures) (leb (access .domain) 15) (access .address)
+    wide-domain (accessWrites (args .old)) (dfsrIn access (args .ttbcr)) (told .dfsr-word .ensures) (leb (access .domain) 15)
+    (access .address)
     (passed coded) (lt-leb _ 15 (c .if2 .taken))
 
 returns-3 : tie.Need-returns-3

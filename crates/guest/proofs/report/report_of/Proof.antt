@@ -47,10 +47,12 @@ returns-3 : tie.Need-returns-3
 returns-3 c = at (c .before .before .args .old) (c .before .before .args .ttbcr) (c .enum-told3 .given .1)
 
 returns-4 : tie.Need-returns-4
-returns-4 c = called (c .before .before .before .before .args .old) (c .before .before .before .before .args .ttbcr) (c .fetch-report .ensures) (c .before .before .what .given .1)
+returns-4 c = called (c .before .before .before .before .args .old) (c .before .before .before .before .args .ttbcr)
+    (c .fetch-report .ensures) (c .before .before .what .given .1)
 
 returns-5 : tie.Need-returns-5
-returns-5 c = called (c .before .before .before .before .args .old) (c .before .before .before .before .args .ttbcr) (c .access-report .ensures) (c .before .before .what2 .given .1)
+returns-5 c = called (c .before .before .before .before .args .old) (c .before .before .before .before .args .ttbcr)
+    (c .access-report .ensures) (c .before .before .what2 .given .1)
 
 pub report-of-spec : {M : Type 1} → statement M
 report-of-spec =

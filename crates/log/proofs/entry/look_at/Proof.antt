@@ -14,12 +14,14 @@ use Rattle.log.proofs.entry.look_at.Tie as tie
 
 -- the section that stands at the place, and what is known of it
 stands : (c : tie.After-count)
-    → sectionAt (now (c .before .before .before .before .args .log)) (c .before .before .before .before .args .passed) (c .before .before .before .before .args .at)
+    → sectionAt (now (c .before .before .before .before .args .log)) (c .before .before .before .before .args .passed)
+    (c .before .before .before .before .args .at)
     ≡ Section.Whole (c .count .given .0 .0) (c .count .given .0 .1 .0)
 stands c = sym (c .before .before .section-at .ensures) ∙ c .count .given .1
 
 known : (c : tie.After-count)
-    → Standing (now (c .before .before .before .before .args .log)) (c .before .before .before .before .args .passed) (c .before .before .before .before .args .at)
+    → Standing (now (c .before .before .before .before .args .log)) (c .before .before .before .before .args .passed)
+    (c .before .before .before .before .args .at)
     (c .count .given .0 .0) (c .count .given .0 .1 .0)
 known c = standing _ _ _ (stands c)
 
@@ -39,7 +41,8 @@ cast-from : tie.Need-cast-from
 cast-from c = search needs
 
 room : (c : tie.After-size-of)
-    → c .before .before .before .before .before .before .before .args .at + 4 + c .before .before .before .before .before .before .before .args .i * c .size-of .result + c .size-of .result
+    → c .before .before .before .before .before .before .before .args .at + 4
+    + c .before .before .before .before .before .before .before .args .i * c .size-of .result + c .size-of .result
     ≤ length (now (c .before .before .before .before .before .before .before .args .log))
 room c = rw (c .size-of .ensures) (entry-in _ _ _ (known (c .before .before .before)) _ (c .before .if1 .taken))
 
@@ -50,7 +53,11 @@ add-from-2 : tie.Need-add-from-2
 add-from-2 c = omega (arith, room c)
 
 entry-in-requires : tie.Need-entry-in-requires
-entry-in-requires c κs = (known (c .before .before .before) .below, rw (c .size-of .ensures) (entry-in _ _ _ (known (c .before .before .before)) _ (c .before .if1 .taken)))
+entry-in-requires c κs = (
+  known (c .before .before .before) .below,
+  rw (c .size-of .ensures)
+      (entry-in _ _ _ (known (c .before .before .before)) _ (c .before .if1 .taken)),
+)
 
 returns : tie.Need-returns
 returns c =

@@ -42,7 +42,8 @@ returns-3 c =
     let a = e .before .before .before .args in
     let s = now (a .log) in
     c .front .ensures
-    ∙ rw (c .before .size-of .ensures, take-all (length s - a .at) (drop (a .at) s) (omega (arith, length-drop (a .at) s))) (place-in s (a .passed) (a .at) (e .before .if1 .left) (e .if2 .left))
+    ∙ rw (c .before .size-of .ensures, take-all (length s - a .at) (drop (a .at) s) (omega (arith, length-drop (a .at) s)))
+    (place-in s (a .passed) (a .at) (e .before .if1 .left) (e .if2 .left))
 
 pub section-at-spec : {M : Type 1} → statement M
 section-at-spec =

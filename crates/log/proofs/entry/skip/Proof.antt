@@ -12,19 +12,22 @@ use Rattle.log.proofs.entry.skip.Statement.{statement}
 use Rattle.log.proofs.entry.skip.Tie as tie
 
 abbrev Inv-loop : tie.InvT-loop
-Inv-loop log passed at n k₀ place₀ left₀ k place left = skipFrom log left record { passed = k; at = place } ≡ skipFrom log n record { passed = passed; at = at }
+Inv-loop log passed at n k₀ place₀ left₀ k place left = skipFrom log left record { passed = k; at = place }
+    ≡ skipFrom log n record { passed = passed; at = at }
 
 abbrev μ-loop : tie.MeasureT-loop
 μ-loop log passed at n k₀ place₀ left₀ k place left = left
 
 -- the section that stands at the place, and what is known of it
 stands : (c : tie.After-end Inv-loop μ-loop)
-    → sectionAt (now (c .before .before .before .before .before .before .args .log)) (c .before .before .before .before .loop .k) (c .before .before .before .before .loop .place)
+    → sectionAt (now (c .before .before .before .before .before .before .args .log)) (c .before .before .before .before .loop .k)
+    (c .before .before .before .before .loop .place)
     ≡ Section.Whole (c .end .given .0 .0) (c .end .given .0 .1 .0)
 stands c = sym (c .before .before .section-at .ensures) ∙ c .end .given .1
 
 known : (c : tie.After-end Inv-loop μ-loop)
-    → Standing (now (c .before .before .before .before .before .before .args .log)) (c .before .before .before .before .loop .k) (c .before .before .before .before .loop .place)
+    → Standing (now (c .before .before .before .before .before .before .args .log)) (c .before .before .before .before .loop .k)
+    (c .before .before .before .before .loop .place)
     (c .end .given .0 .0) (c .end .given .0 .1 .0)
 known c = standing _ _ _ (stands c)
 
@@ -50,7 +53,8 @@ returns : tie.Need-returns Inv-loop μ-loop
 returns c =
     let l = c .before .before .before .before .loop in
     let s = now (c .before .before .before .before .before .before .args .log) in
-    sym (skip-none s (l .left) record { passed = l .k; at = l .place } (sym (c .before .before .section-at .ensures) ∙ c .enum-told .given .1)) ∙ l .inv
+    sym (skip-none s (l .left) record { passed = l .k; at = l .place }
+    (sym (c .before .before .section-at .ensures) ∙ c .enum-told .given .1)) ∙ l .inv
 
 sub-left : tie.Need-sub-left Inv-loop μ-loop
 sub-left c = omega arith

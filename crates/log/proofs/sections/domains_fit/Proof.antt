@@ -30,7 +30,8 @@ looked : (c : tie.After-shared-slice-known Inv-loop μ-loop)
     getD (now (a .rest)) (5 + 2 * l .i) 0 ≡ domainOf (getD (injections (now (a .rest)) (a .count)) (l .i) 0)
 looked c =
     let start = c .before .before .before in
-    domain-at (now (start .args .rest)) (λ i. c .shared-slice-known .given i .fits) (start .args .count) (c .before .before .loop .i) (start .pre)
+    domain-at (now (start .args .rest)) (λ i. c .shared-slice-known .given i .fits) (start .args .count) (c .before .before .loop .i)
+    (start .pre)
     (c .before .loop-test .taken)
 
 loop-holds : tie.Need-loop-holds Inv-loop μ-loop
@@ -68,7 +69,8 @@ loop-again c =
     let a = c .before .before .before .before .args in
     let s = injections (now (a .rest)) (a .count) in (
       omega arith,
-      sym (fits-here s (l .i) (omega (arith, many (now (a .rest)) (a .count))) (omega (arith, c .if1 .left, looked (c .before)))) ∙ l .inv .1,
+      sym (fits-here s (l .i) (omega (arith, many (now (a .rest)) (a .count))) (omega (arith, c .if1 .left, looked (c .before))))
+          ∙ l .inv .1,
     )
 
 returns-2 : tie.Need-returns-2 Inv-loop μ-loop

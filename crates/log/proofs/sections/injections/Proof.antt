@@ -35,10 +35,12 @@ domains-fit-requires c κs =
 -- whether the domains fit, by the count that the section has
 domains : (c : tie.After-domains-fit)
     → c .domains-fit .result
-    ≡ domainsFit (entriesIn injectionSize injectionIn (countOf (now (c .before .before .before .before .before .before .args .rest))) (drop 4 (now (c .before .before .before .before .before .before .args .rest))))
+    ≡ domainsFit (entriesIn injectionSize injectionIn (countOf (now (c .before .before .before .before .before .before .args .rest)))
+    (drop 4 (now (c .before .before .before .before .before .before .args .rest))))
 domains c =
     let s = now (c .before .before .before .before .before .before .args .rest) in
-    c .domains-fit .ensures ∙ ap (λ (n : ℕ). domainsFit (entriesIn injectionSize injectionIn n (drop 4 s))) (known (c .before .before) .counts)
+    c .domains-fit .ensures ∙ ap (λ (n : ℕ). domainsFit (entriesIn injectionSize injectionIn n (drop 4 s)))
+    (known (c .before .before) .counts)
 
 -- bytes are left exactly where the section ends before the log
 left : (s : List ℕ) {count end : ℕ} → Found injectionSize s count end → end < length s → length (afterOf injectionSize s) ≡ 0 → ⊥

@@ -1,5 +1,5 @@
--- `log_pieces::entries::known_editions` meets its contract. The invariant: the mask of the editions that were gone through, and the next one's bit.
--- Assumes nothing.
+-- `log_pieces::entries::known_editions` meets its contract. The invariant: the mask of the editions that were gone through, and the next
+-- one's bit. Assumes nothing.
 use mathlib.Core.Logic.{⊎-elim}
 use mathlib.Core.Path.{_≡_, refl, sym, ap, ap₂, _∙_}
 use Prim.Native.Nat.{ℕ, _+_, _-_, _*_, _^_, _≤_, _<_}

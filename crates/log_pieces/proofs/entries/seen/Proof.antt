@@ -33,7 +33,8 @@ returns c =
     let l = c .before .before .before .loop in
     let a = c .before .before .before .before .before .before .args in
     let within : l .i < length (shown (now (a .log)) .editions) = omega arith in
-    sym (found-here (shown (now (a .log)) .editions) (a .edition) (l .i) within (sym (c .before .edition-at .ensures) ∙ c .if1 .taken)) ∙ l .inv .2
+    sym (found-here (shown (now (a .log)) .editions) (a .edition) (l .i) within (sym (c .before .edition-at .ensures) ∙ c .if1 .taken))
+    ∙ l .inv .2
 
 add-i : tie.Need-add-i Inv-loop μ-loop
 add-i c = omega arith
@@ -48,7 +49,8 @@ loop-again c =
     let within : l .i < length (shown (now (a .log)) .editions) = omega arith in (
       omega arith,
       l .inv .1,
-      sym (not-here (shown (now (a .log)) .editions) (a .edition) (l .i) within (λ e. c .if1 .left (c .before .edition-at .ensures ∙ e))) ∙ l .inv .2,
+      sym (not-here (shown (now (a .log)) .editions) (a .edition) (l .i) within (λ e. c .if1 .left (c .before .edition-at .ensures ∙ e)))
+          ∙ l .inv .2,
     )
 
 returns-2 : tie.Need-returns-2 Inv-loop μ-loop

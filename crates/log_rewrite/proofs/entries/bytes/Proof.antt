@@ -20,7 +20,8 @@ placed c =
     ap (λ (p : Place). p .at) (c .skip .ensures ∙ stands (now (start .args .log)) (start .pre .0) (start .args .passed) (start .pre .1))
 
 within : (c : tie.Start)
-    → startAfter (now (c .args .log)) (c .args .passed) + 4 + countAfter (now (c .args .log)) (c .args .passed) ≤ length (now (c .args .log))
+    → startAfter (now (c .args .log)) (c .args .passed) + 4
+    + countAfter (now (c .args .log)) (c .args .passed) ≤ length (now (c .args .log))
 within c = bytes-within (now (c .args .log)) (c .pre .0) (c .args .passed) (c .pre .1) (c .pre .2)
 
 skip-requires : tie.Need-skip-requires
@@ -33,7 +34,8 @@ count-requires : tie.Need-count-requires
 count-requires c κs = search needs
 
 -- how many entries the section has
-many : (c : tie.After-count) → c .count .result ≡ countAfter (now (c .before .before .before .before .args .log)) (c .before .before .before .before .args .passed)
+many : (c : tie.After-count) → c .count .result ≡ countAfter (now (c .before .before .before .before .args .log))
+    (c .before .before .before .before .args .passed)
 many c =
     let start = c .before .before .before .before in
     c .count .ensures ∙ counted (now (start .args .log)) (start .pre .0) (start .args .passed) (start .pre .1)
@@ -54,7 +56,8 @@ returns : tie.Need-returns
 returns c =
     let start = c .before .before .before .before .before in
     let first = c .before .before .before .skip .result .at + 4 in
-    bytes-behind (now (start .args .log)) (start .pre .0) (start .args .passed) (start .pre .1) (start .pre .2) first (first + c .before .count .result)
+    bytes-behind (now (start .args .log)) (start .pre .0) (start .args .passed) (start .pre .1) (start .pre .2) first
+    (first + c .before .count .result)
     (ap (λ (at : ℕ). at + 4) (placed (c .before .before .before))) (ap (λ (n : ℕ). first + n) (many (c .before)))
 
 pub bytes-spec : {M : Type 1} → statement M

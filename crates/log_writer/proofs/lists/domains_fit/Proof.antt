@@ -32,7 +32,8 @@ shared-slice-read-if1 c = omega arith
 returns : tie.Need-returns Inv-loop μ-loop
 returns c =
     let l = c .before .before .before .loop in
-    sym (wide-here (now (c .before .before .before .before .args .injections)) (l .i) (c .before .before .loop-test .taken) (c .if1 .taken)) ∙ l .inv .1
+    sym (wide-here (now (c .before .before .before .before .args .injections)) (l .i) (c .before .before .loop-test .taken)
+    (c .if1 .taken)) ∙ l .inv .1
 
 add-i : tie.Need-add-i Inv-loop μ-loop
 add-i c = omega arith
@@ -44,7 +45,8 @@ loop-again : tie.Need-loop-again Inv-loop μ-loop
 loop-again c =
     let l = c .before .before .before .loop in (
       omega arith,
-      sym (fits-here (now (c .before .before .before .before .args .injections)) (l .i) (c .before .before .loop-test .taken) (c .if1 .left)) ∙ l .inv .1,
+      sym (fits-here (now (c .before .before .before .before .args .injections)) (l .i) (c .before .before .loop-test .taken)
+          (c .if1 .left)) ∙ l .inv .1,
     )
 
 returns-2 : tie.Need-returns-2 Inv-loop μ-loop

@@ -1,5 +1,5 @@
--- `log_writer::lists::write_lists` meets its contract: the tests that led to each answer are those of the definition, in its order, and the sections
--- are put only where all of them passed.
+-- `log_writer::lists::write_lists` meets its contract: the tests that led to each answer are those of the definition, in its order, and the
+-- sections are put only where all of them passed.
 -- Assumes nothing.
 use borrow.Author.Needs.{needs}
 use mathlib.Core.Path.{_≡_, refl, sym, ap, _∙_}
@@ -14,7 +14,8 @@ use Rattle.log.proofs.Found.{not-true, not-false}
 use Rattle.log_writer.specs.Lists.{Lists, paired}
 use Rattle.log_writer.specs.Write.{lengthBy}
 use Rattle.log_writer.specs.declared.answer.Written.the-variants.{Log}
-use Rattle.log_writer.proofs.Tests.{promised, too-long, other-fars, other-hpfars, wide-domain, no-room, has-room, long-by, short-by, sections-put}
+use Rattle.log_writer.proofs.Tests.{promised, too-long, other-fars, other-hpfars, wide-domain, no-room, has-room, long-by, short-by}
+use Rattle.log_writer.proofs.Tests.{sections-put}
 use Rattle.log_writer.proofs.lists.write_lists.Statement.{statement}
 use Rattle.log_writer.proofs.lists.write_lists.Tie as tie
 
@@ -50,14 +51,16 @@ domains-fit-requires : tie.Need-domains-fit-requires
 domains-fit-requires c κs = search needs
 
 -- past the first test: the length is the one by the counts, and short
-short : (c : tie.Else1) → c .before .length-by .result ≡ lengthBy (given (c .before .before .before .before .before .before .before .before .before))
+short : (c : tie.Else1) → c .before .length-by .result
+    ≡ lengthBy (given (c .before .before .before .before .before .before .before .before .before))
 short c = short-by _ _ (measured (c .before)) (c .if1 .left)
 
 returns-2 : tie.Need-returns-2
 returns-2 c =
     let start = c .before .before .before .before .before .before .before .before .before .before .before in
     let first = c .before .before in
-    promised (given start) (now (start .args .out)) _ _ (other-fars (given start) _ (rw (short first) at (first .if1 .left)) (c .if2 .taken)) refl
+    promised (given start) (now (start .args .out)) _ _
+    (other-fars (given start) _ (rw (short first) at (first .if1 .left)) (c .if2 .taken)) refl
 
 returns-3 : tie.Need-returns-3
 returns-3 c =
@@ -103,7 +106,8 @@ same-length c = search needs
 
 returns-6 : tie.Need-returns-6
 returns-6 c =
-    let k = c .before .before .before .before .before .before .before .before .before .before .before .before .before .before .before .before in
+    let k = c .before .before .before .before .before .before .before .before .before .before .before .before .before .before .before
+    .before in
     let first = k .before .before .before .before .before in
     let start = first .before .before .before .before .before .before .before .before .before in
     let a = start .args in
@@ -117,7 +121,8 @@ returns-6 c =
     let four = c .before .before .halves in
     promised (given start) (now (a .out)) _ _
     (ap Log n
-    ∙ has-room (given start) _ (rw n at (first .if1 .left)) fars hpfars (sym (domains .ensures) ∙ not-false (domains .result) (k .before .if4 .left))
+    ∙ has-room (given start) _ (rw n at (first .if1 .left)) fars hpfars
+    (sym (domains .ensures) ∙ not-false (domains .result) (k .before .if4 .left))
     (rw n at (k .if5 .left)))
     (four .ensures .1
     ∙ ap (λ l. sets l (three .result) (sectionBytes injection (now (a .injections))))

@@ -1,5 +1,5 @@
--- `log_writer::put::bytes` meets its contract. The invariant: what is left of the entries, put behind those that were, gives what all of them give.
--- Assumes nothing.
+-- `log_writer::put::bytes` meets its contract. The invariant: what is left of the entries, put behind those that were, gives what all of
+-- them give. Assumes nothing.
 use borrow.Author.Needs.{needs}
 use mathlib.Core.Path.{_≡_, refl, sym, ap, _∙_}
 use Prim.Native.Nat.{_-_}
@@ -29,10 +29,18 @@ shared-slice-read-out : tie.Need-shared-slice-read-out Inv-loop μ-loop
 shared-slice-read-out c = omega arith
 
 slice-write-out : tie.Need-slice-write-out Inv-loop μ-loop
-slice-write-out c = omega (arith, c .before .before .before .before .before .four .ensures .0, c .before .before .before .before .before .four .kept .0)
+slice-write-out c = omega (
+  arith,
+  c .before .before .before .before .before .four .ensures .0,
+  c .before .before .before .before .before .four .kept .0,
+)
 
 add-end : tie.Need-add-end Inv-loop μ-loop
-add-end c = omega (arith, c .before .before .before .before .before .four .ensures .0, c .before .before .before .before .before .four .kept .0)
+add-end c = omega (
+  arith,
+  c .before .before .before .before .before .four .ensures .0,
+  c .before .before .before .before .before .four .kept .0,
+)
 
 add-i : tie.Need-add-i Inv-loop μ-loop
 add-i c = omega arith
@@ -44,7 +52,8 @@ loop-again : tie.Need-loop-again Inv-loop μ-loop
 loop-again c =
     let l = c .before .before .loop in
     let entries = now (c .before .before .before .before .before .before .before .before .before .args .entries) in
-    put-one byte 1 (length-little 1) entries 0 _ _ (l .inv) (c .before .loop-test .taken) _ _ (byte-stored (l .out) (l .end) _ (c .shared-slice-known2 .given (l .i) .fits)) refl
+    put-one byte 1 (length-little 1) entries 0 _ _ (l .inv) (c .before .loop-test .taken) _ _
+    (byte-stored (l .out) (l .end) _ (c .shared-slice-known2 .given (l .i) .fits)) refl
 
 same-length : tie.Need-same-length Inv-loop μ-loop
 same-length c = c .before .loop .inv .same ∙ c .before .before .before .before .four .kept .0
@@ -53,8 +62,11 @@ returns : tie.Need-returns Inv-loop μ-loop
 returns c =
     let f = c .before .before .before .before .four in
     let a = c .before .before .before .before .before .before .before .before .args in
-    let d = put-all byte 1 (length-little 1) (now (a .entries)) 0 _ _ (c .before .loop .inv) (c .loop-test .left) in
-    (omega (arith, d .0, f .ensures .0), section-put (now (a .out)) _ _ (entryBytes byte (now (a .entries))) (a .at) _ _ (f .ensures .1) (f .ensures .0) (d .1))
+    let d = put-all byte 1 (length-little 1) (now (a .entries)) 0 _ _ (c .before .loop .inv) (c .loop-test .left) in (
+      omega (arith, d .0, f .ensures .0),
+      section-put (now (a .out)) _ _ (entryBytes byte (now (a .entries))) (a .at) _ _ (f .ensures .1)
+          (f .ensures .0) (d .1),
+    )
 
 pub bytes-spec : {M : Type 1} → statement M
 bytes-spec =

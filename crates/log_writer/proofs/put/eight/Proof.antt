@@ -27,7 +27,9 @@ returns c =
     let a = first .before .before .before .args in
     let second = c .before .before .four2 in (
       omega (arith, first .four .ensures .0, second .ensures .0),
-      second .ensures .1 ∙ rw (first .four .ensures .1) (sets-both (little 4 (a .n)) (little 4 (a .n / 4294967296)) (now (a .out)) (a .at) (first .four .result) (first .four .ensures .0 ∙ ap (λ k. a .at + k) (sym (length-little 4 (a .n))))
+      second .ensures .1 ∙ rw (first .four .ensures .1)
+          (sets-both (little 4 (a .n)) (little 4 (a .n / 4294967296)) (now (a .out)) (a .at) (first .four .result)
+          (first .four .ensures .0 ∙ ap (λ k. a .at + k) (sym (length-little 4 (a .n))))
           ∙ ap (sets (now (a .out)) (a .at)) (eight-bytes (a .n))),
     )
 

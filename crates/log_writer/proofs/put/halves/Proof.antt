@@ -1,5 +1,5 @@
--- `log_writer::put::halves` meets its contract. The invariant: what is left of the entries, put behind those that were, gives what all of them give.
--- Assumes nothing.
+-- `log_writer::put::halves` meets its contract. The invariant: what is left of the entries, put behind those that were, gives what all of
+-- them give. Assumes nothing.
 use borrow.Author.Needs.{needs}
 use mathlib.Core.Path.{_≡_, refl, sym, ap, _∙_}
 use Prim.Native.Nat.{_-_}
@@ -32,7 +32,11 @@ shared-slice-read-two : tie.Need-shared-slice-read-two Inv-loop μ-loop
 shared-slice-read-two c = omega arith
 
 two-requires : tie.Need-two-requires Inv-loop μ-loop
-two-requires c κs = omega (arith, c .before .before .before .before .before .before .four .ensures .0, c .before .before .before .before .before .before .four .kept .0)
+two-requires c κs = omega (
+  arith,
+  c .before .before .before .before .before .before .four .ensures .0,
+  c .before .before .before .before .before .before .four .kept .0,
+)
 
 add-i : tie.Need-add-i Inv-loop μ-loop
 add-i c = omega arith
@@ -44,7 +48,8 @@ loop-again : tie.Need-loop-again Inv-loop μ-loop
 loop-again c =
     let l = c .before .before .before .before .before .before .loop in
     let e = c .before .before .two .ensures in
-    put-one injection 2 (length-little 2) (now (c .before .before .before .before .before .before .before .before .before .before .before .before .before .args .entries)) 0 _ _ (l .inv) (c .before .before .before .before .before .loop-test .taken) _ _ (e .1) (e .0)
+    put-one injection 2 (length-little 2) (now (c .before .before .before .before .before .before .before .before .before .before .before
+    .before .before .args .entries)) 0 _ _ (l .inv) (c .before .before .before .before .before .loop-test .taken) _ _ (e .1) (e .0)
 
 same-length : tie.Need-same-length Inv-loop μ-loop
 same-length c = c .before .loop .inv .same ∙ c .before .before .before .before .four .kept .0
@@ -53,8 +58,11 @@ returns : tie.Need-returns Inv-loop μ-loop
 returns c =
     let f = c .before .before .before .before .four in
     let a = c .before .before .before .before .before .before .before .before .args in
-    let d = put-all injection 2 (length-little 2) (now (a .entries)) 0 _ _ (c .before .loop .inv) (c .loop-test .left) in
-    (omega (arith, d .0, f .ensures .0), section-put (now (a .out)) _ _ (entryBytes injection (now (a .entries))) (a .at) _ _ (f .ensures .1) (f .ensures .0) (d .1))
+    let d = put-all injection 2 (length-little 2) (now (a .entries)) 0 _ _ (c .before .loop .inv) (c .loop-test .left) in (
+      omega (arith, d .0, f .ensures .0),
+      section-put (now (a .out)) _ _ (entryBytes injection (now (a .entries))) (a .at) _ _
+          (f .ensures .1) (f .ensures .0) (d .1),
+    )
 
 pub halves-spec : {M : Type 1} → statement M
 halves-spec =

@@ -1,5 +1,5 @@
--- `log_writer::put::pairs` meets its contract. The invariant: what is left of the entries, put behind those that were, gives what all of them give.
--- Assumes nothing.
+-- `log_writer::put::pairs` meets its contract. The invariant: what is left of the entries, put behind those that were, gives what all of
+-- them give. Assumes nothing.
 use borrow.Author.Needs.{needs}
 use mathlib.Core.Path.{_≡_, refl, sym, ap, _∙_}
 use Prim.Native.Nat.{_-_}
@@ -35,7 +35,11 @@ shared-slice-read-eight : tie.Need-shared-slice-read-eight Inv-loop μ-loop
 shared-slice-read-eight c = omega arith
 
 eight-requires : tie.Need-eight-requires Inv-loop μ-loop
-eight-requires c κs = omega (arith, c .before .before .before .before .before .before .four .ensures .0, c .before .before .before .before .before .before .four .kept .0)
+eight-requires c κs = omega (
+  arith,
+  c .before .before .before .before .before .before .four .ensures .0,
+  c .before .before .before .before .before .before .four .kept .0,
+)
 
 mul-eight-2 : tie.Need-mul-eight-2 Inv-loop μ-loop
 mul-eight-2 c = search needs
@@ -44,7 +48,14 @@ shared-slice-read-eight-2 : tie.Need-shared-slice-read-eight-2 Inv-loop μ-loop
 shared-slice-read-eight-2 c = omega arith
 
 eight-requires-2 : tie.Need-eight-requires-2 Inv-loop μ-loop
-eight-requires-2 c κs = omega (arith, c .before .before .before .before .before .before .before .before .before .before .before .four .ensures .0, c .before .before .before .before .before .before .before .before .before .before .before .four .kept .0, c .before .before .before .before .eight .ensures .0, c .before .before .before .before .eight .kept .0)
+eight-requires-2 c κs = omega (
+  arith,
+  c .before .before .before .before .before .before .before .before .before .before .before .four
+      .ensures .0,
+  c .before .before .before .before .before .before .before .before .before .before .before .four .kept .0,
+  c .before .before .before .before .eight .ensures .0,
+  c .before .before .before .before .eight .kept .0,
+)
 
 add-i : tie.Need-add-i Inv-loop μ-loop
 add-i c = omega arith
@@ -55,12 +66,15 @@ loop-less c = omega arith
 loop-again : tie.Need-loop-again Inv-loop μ-loop
 loop-again c =
     let l = c .before .before .before .before .before .before .before .before .before .before .before .loop in
-    let a = c .before .before .before .before .before .before .before .before .before .before .before .before .before .before .before .before .before .before .before .args in
+    let a = c .before .before .before .before .before .before .before .before .before .before .before .before .before .before .before
+    .before .before .before .before .args in
     let first = c .before .before .before .before .before .before .before .eight .ensures in
     let second = c .before .before .eight2 .ensures in
-    let same = c .before .before .before .before .before .before .before .before .before .before .before .before .before .before .before .before .before .before .before .pre .0 in
+    let same = c .before .before .before .before .before .before .before .before .before .before .before .before .before .before .before
+    .before .before .before .before .pre .0 in
     let more = c .before .before .before .before .before .before .before .before .before .before .loop-test .taken in
-    put-one pair 16 pair-sized (paired (now (a .fars)) (now (a .hpfars))) nowhere _ _ (l .inv) (omega (arith, more, paired-length (now (a .fars)) (now (a .hpfars)) same)) _ _
+    put-one pair 16 pair-sized (paired (now (a .fars)) (now (a .hpfars))) nowhere _ _ (l .inv)
+    (omega (arith, more, paired-length (now (a .fars)) (now (a .hpfars)) same)) _ _
     (second .1 ∙ rw (first .1) (pair-stored (now (a .fars)) (now (a .hpfars)) (l .out) (l .i) (l .end) _ same more (first .0)))
     (omega (arith, first .0, second .0))
 
@@ -73,9 +87,11 @@ returns c =
     let a = c .before .before .before .before .before .before .before .before .before .args in
     let same = c .before .before .before .before .before .before .before .before .before .pre .0 in
     let n = paired-length (now (a .fars)) (now (a .hpfars)) same in
-    let d = put-all pair 16 pair-sized (paired (now (a .fars)) (now (a .hpfars))) nowhere _ _ (c .before .loop .inv) (omega (arith, n, c .loop-test .left)) in (
+    let d = put-all pair 16 pair-sized (paired (now (a .fars)) (now (a .hpfars))) nowhere _ _ (c .before .loop .inv)
+    (omega (arith, n, c .loop-test .left)) in (
       omega (arith, d .0, f .ensures .0, n),
-      section-put (now (a .out)) _ _ (entryBytes pair (paired (now (a .fars)) (now (a .hpfars)))) (a .at) _ _ (f .ensures .1 ∙ ap (λ k. sets (now (a .out)) (a .at) (little 4 k)) (sym n)) (f .ensures .0) (d .1),
+      section-put (now (a .out)) _ _ (entryBytes pair (paired (now (a .fars)) (now (a .hpfars)))) (a .at) _ _
+          (f .ensures .1 ∙ ap (λ k. sets (now (a .out)) (a .at) (little 4 k)) (sym n)) (f .ensures .0) (d .1),
     )
 
 pub pairs-spec : {M : Type 1} → statement M

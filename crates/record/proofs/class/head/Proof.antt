@@ -146,7 +146,8 @@ returns-10 : tie.Need-returns-10
 returns-10 c = at-arm headOf refl (c .before .r10 .given .1)
 
 returns-11 : tie.Need-returns-11
-returns-11 c = at-arm headOf (with-own (c .without-isv10 .ensures) (c .before .debug-class .ensures)) (c .before .before .before .r11 .given .1)
+returns-11 c = at-arm headOf (with-own (c .without-isv10 .ensures) (c .before .debug-class .ensures))
+    (c .before .before .before .r11 .given .1)
 
 returns-12 : tie.Need-returns-12
 returns-12 c = at-arm headOf (c .without-isv11 .ensures) (c .before .before .r12 .given .1)

@@ -21,13 +21,15 @@ returns : tie.Need-returns
 returns c =
     let at = c .before .before in
     c .aarch64-class .ensures
-    ∙ sym (ap (λ (b : Bool). among (cond b aarch64Classes aarch32Classes) (at .before .args .class)) (sym (at .from-aarch64 .ensures) ∙ c .before .if1 .taken))
+    ∙ sym (ap (λ (b : Bool). among (cond b aarch64Classes aarch32Classes) (at .before .args .class))
+    (sym (at .from-aarch64 .ensures) ∙ c .before .if1 .taken))
 
 returns-2 : tie.Need-returns-2
 returns-2 c =
     let at = c .before .before in
     c .aarch32-class .ensures
-    ∙ sym (ap (λ (b : Bool). among (cond b aarch64Classes aarch32Classes) (at .before .args .class)) (sym (at .from-aarch64 .ensures) ∙ c .before .if1 .left))
+    ∙ sym (ap (λ (b : Bool). among (cond b aarch64Classes aarch32Classes) (at .before .args .class))
+    (sym (at .from-aarch64 .ensures) ∙ c .before .if1 .left))
 
 pub is-class-spec : {M : Type 1} → statement M
 is-class-spec = tie.close (tie.spec from-aarch64-requires aarch64-class-requires aarch32-class-requires returns returns-2)

@@ -7,13 +7,15 @@ use mathlib.Core.Logic.{inl, inr}
 use borrow.Author.Tests.{ne-eqb}
 use Prim.Native.Nat.{ℕ}
 use Rattle.bits.proofs.Among.{Each, OfArm, arm-each, not-of-arm}
-use Rattle.record.specs.Split.{plainAt, wfxAt, mcrAt, mcrrAt, ldcAt, simdAt, callAt, smcAt, instructionAbortAt, dataAbortAt, debugAt, stepAt, watchpointAt, serrorAt, systemAt, recordOf}
+use Rattle.record.specs.Split.{plainAt, wfxAt, mcrAt, mcrrAt, ldcAt, simdAt, callAt, smcAt, instructionAbortAt, dataAbortAt, debugAt}
+use Rattle.record.specs.Split.{stepAt, watchpointAt, serrorAt, systemAt, recordOf}
 use Rattle.record.specs.declared.kinds.Record.{Record}
 use Rattle.record.proofs.split.record_of.Statement.{statement}
 use Rattle.record.proofs.split.record_of.Tie as tie
 
 -- an arm's layout is that of each of its classes, and so of the class
-at-class : (f : ℕ → Record) (w k : ℕ) (ks : List ℕ) → Each (λ x. f x ≡ recordOf x w) (k ∷ ks) → {class : ℕ} → OfArm k ks class → f class ≡ recordOf class w
+at-class : (f : ℕ → Record) (w k : ℕ) (ks : List ℕ) → Each (λ x. f x ≡ recordOf x w) (k ∷ ks) → {class : ℕ} → OfArm k ks class
+    → f class ≡ recordOf class w
 at-class f w k ks = arm-each k ks (λ x. f x ≡ recordOf x w)
 
 wfx-at-requires : tie.Need-wfx-at-requires
@@ -74,13 +76,15 @@ returns-2 : tie.Need-returns-2
 unfolding recordOf
 returns-2 c =
     let w = c .before .before .args .word in
-    ap Record.Mcr (c .mcr-at .ensures) ∙ at-class (λ x. Record.Mcr (mcrAt x w)) w 0x03 (0x05 ∷ 0x08 ∷ []) (refl, (refl, (refl, tt))) (c .before .match .keys2)
+    ap Record.Mcr (c .mcr-at .ensures) ∙ at-class (λ x. Record.Mcr (mcrAt x w)) w 0x03 (0x05 ∷ 0x08 ∷ []) (refl, (refl, (refl, tt)))
+    (c .before .match .keys2)
 
 returns-3 : tie.Need-returns-3
 unfolding recordOf
 returns-3 c =
     let w = c .before .before .args .word in
-    ap Record.Mcrr (c .mcrr-at .ensures) ∙ at-class (λ x. Record.Mcrr (mcrrAt x w)) w 0x04 (0x0C ∷ []) (refl, (refl, tt)) (c .before .match .keys3)
+    ap Record.Mcrr (c .mcrr-at .ensures) ∙ at-class (λ x. Record.Mcrr (mcrrAt x w)) w 0x04 (0x0C ∷ []) (refl, (refl, tt))
+    (c .before .match .keys3)
 
 returns-4 : tie.Need-returns-4
 unfolding recordOf
@@ -98,13 +102,15 @@ returns-6 : tie.Need-returns-6
 unfolding recordOf
 returns-6 c =
     let w = c .before .before .args .word in
-    ap Record.Call (c .call-at .ensures) ∙ at-class (λ x. Record.Call (callAt x w)) w 0x11 (0x15 ∷ 0x17 ∷ 0x38 ∷ []) (refl, (refl, (refl, (refl, tt)))) (c .before .match .keys6)
+    ap Record.Call (c .call-at .ensures) ∙ at-class (λ x. Record.Call (callAt x w)) w 0x11 (0x15 ∷ 0x17 ∷ 0x38 ∷ [])
+    (refl, (refl, (refl, (refl, tt)))) (c .before .match .keys6)
 
 returns-7 : tie.Need-returns-7
 unfolding recordOf
 returns-7 c =
     let w = c .before .before .args .word in
-    ap Record.Call (c .call-at2 .ensures) ∙ at-class (λ x. Record.Call (callAt x w)) w 0x12 (0x16 ∷ []) (refl, (refl, tt)) (c .before .match .keys7)
+    ap Record.Call (c .call-at2 .ensures) ∙ at-class (λ x. Record.Call (callAt x w)) w 0x12 (0x16 ∷ []) (refl, (refl, tt))
+    (c .before .match .keys7)
 
 returns-8 : tie.Need-returns-8
 unfolding recordOf
@@ -116,19 +122,22 @@ returns-9 : tie.Need-returns-9
 unfolding recordOf
 returns-9 c =
     let w = c .before .before .args .word in
-    ap Record.InstructionAbort (c .instruction-abort-at .ensures) ∙ at-class (λ x. Record.InstructionAbort (instructionAbortAt w)) w 0x20 [] (refl, tt) (c .before .match .keys9)
+    ap Record.InstructionAbort (c .instruction-abort-at .ensures)
+    ∙ at-class (λ x. Record.InstructionAbort (instructionAbortAt w)) w 0x20 [] (refl, tt) (c .before .match .keys9)
 
 returns-10 : tie.Need-returns-10
 unfolding recordOf
 returns-10 c =
     let w = c .before .before .args .word in
-    ap Record.DataAbort (c .data-abort-at .ensures) ∙ at-class (λ x. Record.DataAbort (dataAbortAt w)) w 0x24 [] (refl, tt) (c .before .match .keys10)
+    ap Record.DataAbort (c .data-abort-at .ensures)
+    ∙ at-class (λ x. Record.DataAbort (dataAbortAt w)) w 0x24 [] (refl, tt) (c .before .match .keys10)
 
 returns-11 : tie.Need-returns-11
 unfolding recordOf
 returns-11 c =
     let w = c .before .before .args .word in
-    ap Record.Debug (c .debug-at .ensures) ∙ at-class (λ x. Record.Debug (debugAt x w)) w 0x30 (0x3A ∷ []) (refl, (refl, tt)) (c .before .match .keys11)
+    ap Record.Debug (c .debug-at .ensures) ∙ at-class (λ x. Record.Debug (debugAt x w)) w 0x30 (0x3A ∷ []) (refl, (refl, tt))
+    (c .before .match .keys11)
 
 returns-12 : tie.Need-returns-12
 unfolding recordOf
@@ -140,7 +149,8 @@ returns-13 : tie.Need-returns-13
 unfolding recordOf
 returns-13 c =
     let w = c .before .before .args .word in
-    ap Record.Watchpoint (c .watchpoint-at .ensures) ∙ at-class (λ x. Record.Watchpoint (watchpointAt w)) w 0x34 [] (refl, tt) (c .before .match .keys13)
+    ap Record.Watchpoint (c .watchpoint-at .ensures)
+    ∙ at-class (λ x. Record.Watchpoint (watchpointAt w)) w 0x34 [] (refl, tt) (c .before .match .keys13)
 
 returns-14 : tie.Need-returns-14
 unfolding recordOf

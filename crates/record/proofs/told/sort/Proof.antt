@@ -59,7 +59,8 @@ returns : tie.Need-returns
 returns c = search needs
 
 returns-2 : tie.Need-returns-2
-returns-2 c = at-arm sortOf (sym (ap (λ (b : Bool). cond b Sort.Addressed Sort.Plain) (ne-eqb _ _ (c .if1 .left)))) (c .before .before .before .r .given .1)
+returns-2 c = at-arm sortOf (sym (ap (λ (b : Bool). cond b Sort.Addressed Sort.Plain) (ne-eqb _ _ (c .if1 .left))))
+    (c .before .before .before .r .given .1)
 
 returns-3 : tie.Need-returns-3
 returns-3 c = search needs

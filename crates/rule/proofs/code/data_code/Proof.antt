@@ -1,5 +1,5 @@
--- `rule::code::data_code` meets its contract: the table is computed from the rule at each of its 64 entries, and no edition has a larger code.
--- Assumes nothing.
+-- `rule::code::data_code` meets its contract: the table is computed from the rule at each of its 64 entries, and no edition has a larger
+-- code. Assumes nothing.
 use borrow.Author.Needs.{needs}
 use Rattle.bits.proofs.Table.{at-entry}
 use Rattle.edition.specs.Mask.{maskOf}

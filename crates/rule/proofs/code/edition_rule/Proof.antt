@@ -90,7 +90,8 @@ returns-4 c =
     (ap₂ bitAnd (c .before .before .data-code .ensures) (c .before .set-rule2 .ensures)
     ∙ both-masks (λ e. dataCode e (x .0 .0 .code)) (λ e. setRule e (x .0 .0 .set) (x .0 .0 .code)))
     (c .isv-rule .ensures)
-    ∙ both-masks (λ e. dataCode e (x .0 .0 .code) && setRule e (x .0 .0 .set) (x .0 .0 .code)) (λ e. isvRule e (x .0 .0 .isv) (x .0 .0 .code)))
+    ∙ both-masks (λ e. dataCode e (x .0 .0 .code) && setRule e (x .0 .0 .set) (x .0 .0 .code))
+    (λ e. isvRule e (x .0 .0 .isv) (x .0 .0 .code)))
 
 returns-5 : tie.Need-returns-5
 returns-5 c =

@@ -20,7 +20,8 @@ use Rattle.rule.proofs.code.editions.Tie as tie
 
 -- the masks of the rules of the edition, kept where the other rules hold
 kept : (o : Origin) (r : Record) (h : Head) {known long allowed holds : Bool} → h ≡ headOf r → known ≡ isClass o (h .class)
-    → long ≡ ilRule o (h .class) (h .isv) (h .il) → allowed ≡ (fitting (fieldsOf r) && layoutRule o r) → (h .own && known && long && allowed) ≡ holds
+    → long ≡ ilRule o (h .class) (h .isv) (h .il) → allowed ≡ (fitting (fieldsOf r) && layoutRule o r)
+    → (h .own && known && long && allowed) ≡ holds
     → cond holds (maskOf (λ e. editionRule e r)) 0 ≡ editionsOf o r
 unfolding has lawful
 kept o r h same k l a decided =
@@ -55,7 +56,8 @@ returns c =
     let head = class .before in
     let a = head .before .args in
     c .edition-rule .ensures
-    ∙ kept (a .origin) (a .r) (head .head .result) (head .head .ensures) (class .is-class .ensures) (il .il-rule .ensures) (at .layout-rule .ensures) (c .before .if1 .taken)
+    ∙ kept (a .origin) (a .r) (head .head .result) (head .head .ensures) (class .is-class .ensures) (il .il-rule .ensures)
+    (at .layout-rule .ensures) (c .before .if1 .taken)
 
 returns-2 : tie.Need-returns-2
 returns-2 c =
@@ -64,7 +66,8 @@ returns-2 c =
     let class = il .before .before in
     let head = class .before in
     let a = head .before .args in
-    kept (a .origin) (a .r) (head .head .result) (head .head .ensures) (class .is-class .ensures) (il .il-rule .ensures) (at .layout-rule .ensures) (c .if1 .left)
+    kept (a .origin) (a .r) (head .head .result) (head .head .ensures) (class .is-class .ensures) (il .il-rule .ensures)
+    (at .layout-rule .ensures) (c .if1 .left)
 
 pub editions-spec : {M : Type 1} → statement M
 editions-spec =

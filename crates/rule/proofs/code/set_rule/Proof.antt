@@ -24,7 +24,8 @@ all-editions-requires : tie.Need-all-editions-requires
 all-editions-requires c κs = search needs
 
 returns : tie.Need-returns
-returns c = c .all-editions .ensures ∙ masked (c .before .before .args .set) (c .before .before .args .code) (eq-eqb _ _ (c .before .if1 .taken)) refl
+returns c = c .all-editions .ensures ∙ masked (c .before .before .args .set) (c .before .before .args .code)
+    (eq-eqb _ _ (c .before .if1 .taken)) refl
 
 ras-editions-requires : tie.Need-ras-editions-requires
 ras-editions-requires c κs = search needs
@@ -32,7 +33,8 @@ ras-editions-requires c κs = search needs
 returns-2 : tie.Need-returns-2
 returns-2 c =
     c .ras-editions .ensures
-    ∙ masked (c .before .before .before .args .set) (c .before .before .before .args .code) (ne-eqb _ _ (c .before .before .if1 .left)) (c .before .if2 .taken)
+    ∙ masked (c .before .before .before .args .set) (c .before .before .before .args .code) (ne-eqb _ _ (c .before .before .if1 .left))
+    (c .before .if2 .taken)
 
 returns-3 : tie.Need-returns-3
 returns-3 c = masked (c .before .before .args .set) (c .before .before .args .code) (ne-eqb _ _ (c .before .if1 .left)) (c .if2 .left)

@@ -15,7 +15,8 @@ data-rule-requires : tie.Need-data-rule-requires
 data-rule-requires c κs = search needs
 
 returns : tie.Need-returns
-returns c = ap₂ _&&_ (fitting-after true (dataAbortFields (c .before .before .before .before .before .before .args .r))) (ap₂ _&&_ (c .before .abort-rule .ensures) (c .data-rule .ensures))
+returns c = ap₂ _&&_ (fitting-after true (dataAbortFields (c .before .before .before .before .before .before .args .r)))
+    (ap₂ _&&_ (c .before .abort-rule .ensures) (c .data-rule .ensures))
 
 pub data-abort-spec : {M : Type 1} → statement M
 data-abort-spec = tie.close (tie.spec abort-rule-requires data-rule-requires returns)

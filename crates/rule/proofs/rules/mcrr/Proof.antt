@@ -15,7 +15,8 @@ direction-rule-requires : tie.Need-direction-rule-requires
 direction-rule-requires c κs = search needs
 
 returns : tie.Need-returns
-returns c = ap₂ _&&_ (fitting-after true (mcrrFields (c .before .before .before .before .before .before .before .before .args .r))) (ap₂ _&&_ (c .before .condition-rule .ensures) (c .direction-rule .ensures))
+returns c = ap₂ _&&_ (fitting-after true (mcrrFields (c .before .before .before .before .before .before .before .before .args .r)))
+    (ap₂ _&&_ (c .before .condition-rule .ensures) (c .direction-rule .ensures))
 
 pub mcrr-spec : {M : Type 1} → statement M
 mcrr-spec = tie.close (tie.spec condition-rule-requires direction-rule-requires returns)

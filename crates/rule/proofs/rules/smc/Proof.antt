@@ -15,7 +15,8 @@ passed-rule-requires : tie.Need-passed-rule-requires
 passed-rule-requires c κs = search needs
 
 returns : tie.Need-returns
-returns c = ap₂ _&&_ (fitting-after true (smcFields (c .before .before .before .args .r))) (ap₂ _&&_ (c .before .condition-rule .ensures) (c .passed-rule .ensures))
+returns c = ap₂ _&&_ (fitting-after true (smcFields (c .before .before .before .args .r)))
+    (ap₂ _&&_ (c .before .condition-rule .ensures) (c .passed-rule .ensures))
 
 pub smc-spec : {M : Type 1} → statement M
 smc-spec = tie.close (tie.spec condition-rule-requires passed-rule-requires returns)

@@ -13,7 +13,8 @@ use Rattle.short_record.proofs.split.record_of.Statement.{statement}
 use Rattle.short_record.proofs.split.record_of.Tie as tie
 
 -- an arm's layout is that of each of its classes, and so of the class
-at-class : (f : ℕ → Record) (w k : ℕ) (ks : List ℕ) → Each (λ x. f x ≡ recordOf x w) (k ∷ ks) → {class : ℕ} → OfArm k ks class → f class ≡ recordOf class w
+at-class : (f : ℕ → Record) (w k : ℕ) (ks : List ℕ) → Each (λ x. f x ≡ recordOf x w) (k ∷ ks) → {class : ℕ} → OfArm k ks class
+    → f class ≡ recordOf class w
 at-class f w k ks = arm-each k ks (λ x. f x ≡ recordOf x w)
 
 wfx-at-requires : tie.Need-wfx-at-requires
@@ -59,13 +60,15 @@ returns-2 : tie.Need-returns-2
 unfolding recordOf
 returns-2 c =
     let w = c .before .before .args .word in
-    ap Record.Mcr (c .mcr-at .ensures) ∙ at-class (λ x. Record.Mcr (mcrAt x w)) w 0x03 (0x05 ∷ 0x08 ∷ []) (refl, (refl, (refl, tt))) (c .before .match .keys2)
+    ap Record.Mcr (c .mcr-at .ensures) ∙ at-class (λ x. Record.Mcr (mcrAt x w)) w 0x03 (0x05 ∷ 0x08 ∷ []) (refl, (refl, (refl, tt)))
+    (c .before .match .keys2)
 
 returns-3 : tie.Need-returns-3
 unfolding recordOf
 returns-3 c =
     let w = c .before .before .args .word in
-    ap Record.Mcrr (c .mcrr-at .ensures) ∙ at-class (λ x. Record.Mcrr (mcrrAt x w)) w 0x04 (0x0C ∷ []) (refl, (refl, tt)) (c .before .match .keys3)
+    ap Record.Mcrr (c .mcrr-at .ensures) ∙ at-class (λ x. Record.Mcrr (mcrrAt x w)) w 0x04 (0x0C ∷ []) (refl, (refl, tt))
+    (c .before .match .keys3)
 
 returns-4 : tie.Need-returns-4
 unfolding recordOf
@@ -101,13 +104,15 @@ returns-9 : tie.Need-returns-9
 unfolding recordOf
 returns-9 c =
     let w = c .before .before .args .word in
-    ap Record.InstructionAbort (c .instruction-abort-at .ensures) ∙ at-class (λ x. Record.InstructionAbort (instructionAbortAt w)) w 0x20 [] (refl, tt) (c .before .match .keys9)
+    ap Record.InstructionAbort (c .instruction-abort-at .ensures)
+    ∙ at-class (λ x. Record.InstructionAbort (instructionAbortAt w)) w 0x20 [] (refl, tt) (c .before .match .keys9)
 
 returns-10 : tie.Need-returns-10
 unfolding recordOf
 returns-10 c =
     let w = c .before .before .args .word in
-    ap Record.DataAbort (c .data-abort-at .ensures) ∙ at-class (λ x. Record.DataAbort (dataAbortAt w)) w 0x24 [] (refl, tt) (c .before .match .keys10)
+    ap Record.DataAbort (c .data-abort-at .ensures)
+    ∙ at-class (λ x. Record.DataAbort (dataAbortAt w)) w 0x24 [] (refl, tt) (c .before .match .keys10)
 
 returns-11 : tie.Need-returns-11
 unfolding recordOf

@@ -126,7 +126,8 @@ returns-10 c =
     (c .before .wnr-rule .ensures)
     ∙ both-masks (λ e. dataCode e code && aetRule e (r .0 .0 .aet) code) (λ e. wnrRule e (r .0 .0 .wnr) code))
     (c .isv-rule .ensures)
-    ∙ both-masks (λ e. dataCode e code && aetRule e (r .0 .0 .aet) code && wnrRule e (r .0 .0 .wnr) code) (λ e. isvCode (ras e) (r .0 .0 .isv) code))
+    ∙ both-masks (λ e. dataCode e code && aetRule e (r .0 .0 .aet) code && wnrRule e (r .0 .0 .wnr) code)
+    (λ e. isvCode (ras e) (r .0 .0 .isv) code))
     (r .1)
 
 pub edition-rule-spec : {M : Type 1} → statement M

@@ -44,13 +44,15 @@ returns c =
     let at = c .before .before in
     let il = at .before .before in
     c .edition-rule .ensures
-    ∙ kept (il .before .before .args .r) (il .before .head .result) (il .before .head .ensures) (il .il-rule .ensures) (at .layout-rule .ensures) (c .before .if1 .taken)
+    ∙ kept (il .before .before .args .r) (il .before .head .result) (il .before .head .ensures) (il .il-rule .ensures)
+    (at .layout-rule .ensures) (c .before .if1 .taken)
 
 returns-2 : tie.Need-returns-2
 returns-2 c =
     let at = c .before in
     let il = at .before .before in
-    kept (il .before .before .args .r) (il .before .head .result) (il .before .head .ensures) (il .il-rule .ensures) (at .layout-rule .ensures) (c .if1 .left)
+    kept (il .before .before .args .r) (il .before .head .result) (il .before .head .ensures) (il .il-rule .ensures)
+    (at .layout-rule .ensures) (c .if1 .left)
 
 pub editions-spec : {M : Type 1} → statement M
 editions-spec =

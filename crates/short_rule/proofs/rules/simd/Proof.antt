@@ -15,7 +15,8 @@ coproc-rule-requires : tie.Need-coproc-rule-requires
 coproc-rule-requires c κs = search needs
 
 returns : tie.Need-returns
-returns c = ap₂ _&&_ (fitting-after true (simdFields (c .before .before .before .before .args .r))) (ap₂ _&&_ (c .before .condition-rule .ensures) (c .coproc-rule .ensures))
+returns c = ap₂ _&&_ (fitting-after true (simdFields (c .before .before .before .before .args .r)))
+    (ap₂ _&&_ (c .before .condition-rule .ensures) (c .coproc-rule .ensures))
 
 pub simd-spec : {M : Type 1} → statement M
 simd-spec = tie.close (tie.spec condition-rule-requires coproc-rule-requires returns)

@@ -29,12 +29,14 @@ field32-requires c κs = search needs
 returns : tie.Need-returns
 returns c =
     let start = c .before .before .before .before in
-    by (start .args .cond) (start .args .status) (c .before .before .before .test-of .ensures) (c .before .before .bit .ensures) (c .before .field32 .ensures) (c .if1 .taken)
+    by (start .args .cond) (start .args .status) (c .before .before .before .test-of .ensures) (c .before .before .bit .ensures)
+    (c .before .field32 .ensures) (c .if1 .taken)
 
 returns-2 : tie.Need-returns-2
 returns-2 c =
     let start = c .before .before .before .before in
-    by (start .args .cond) (start .args .status) (c .before .before .before .test-of .ensures) (c .before .before .bit .ensures) (c .before .field32 .ensures) (c .if1 .left)
+    by (start .args .cond) (start .args .status) (c .before .before .before .test-of .ensures) (c .before .before .bit .ensures)
+    (c .before .field32 .ensures) (c .if1 .left)
 
 pub condition-holds-spec : {M : Type 1} → statement M
 condition-holds-spec =

@@ -39,12 +39,14 @@ returns c =
     let start = past .before .before .before .before in
     c .field322 .ensures
     ∙ ap (λ (n : ℕ). fieldOf n 7 4) (past .before .before .before .it-of .ensures)
-    ∙ by (start .args .status) (past .before .before .t32 .ensures) (past .before .field32 .ensures) (past .before .before .before .it-of .ensures) (past .if1 .taken)
+    ∙ by (start .args .status) (past .before .before .t32 .ensures) (past .before .field32 .ensures)
+    (past .before .before .before .it-of .ensures) (past .if1 .taken)
 
 returns-2 : tie.Need-returns-2
 returns-2 c =
     let start = c .before .before .before .before in
-    by (start .args .status) (c .before .before .t32 .ensures) (c .before .field32 .ensures) (c .before .before .before .it-of .ensures) (c .if1 .left)
+    by (start .args .status) (c .before .before .t32 .ensures) (c .before .field32 .ensures) (c .before .before .before .it-of .ensures)
+    (c .if1 .left)
 
 pub current-condition-spec : {M : Type 1} → statement M
 current-condition-spec =

@@ -15,7 +15,8 @@ of-condition : (w : ℕ) (what : Record) {came part : Condition} → came ≡ co
 unfolding passes
 of-condition w what found same = ap (passesBy w) (sym same ∙ found)
 
-by-cv : (w c : ℕ) {cv b : Bool} → cv ≡ b → conditionHolds (cond b c (currentCondition w)) w ≡ conditionHolds (cond cv c (currentCondition w)) w
+by-cv : (w c : ℕ) {cv b : Bool} → cv ≡ b → conditionHolds (cond b c (currentCondition w)) w
+    ≡ conditionHolds (cond cv c (currentCondition w)) w
 by-cv w c = told (λ (b : Bool). conditionHolds (cond b c (currentCondition w)) w)
 
 condition-of-requires : tie.Need-condition-of-requires
@@ -37,7 +38,8 @@ condition-holds-requires-2 : tie.Need-condition-holds-requires-2
 condition-holds-requires-2 c κs = search needs
 
 returns : tie.Need-returns
-returns c = of-condition (c .before .before .before .args .status) (c .before .before .before .args .what) (c .before .before .condition-of .ensures) (c .enum-told .given .1)
+returns c = of-condition (c .before .before .before .args .status) (c .before .before .before .args .what)
+    (c .before .before .condition-of .ensures) (c .enum-told .given .1)
 
 returns-2 : tie.Need-returns-2
 returns-2 c =

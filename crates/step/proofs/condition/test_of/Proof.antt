@@ -8,7 +8,8 @@ use Rattle.step.specs.Condition.{tested, testOf}
 use Rattle.step.proofs.condition.test_of.Statement.{statement}
 use Rattle.step.proofs.condition.test_of.Tie as tie
 
-chosen : (cond w : ℕ) {test : ℕ} {n z c v : Bool} → test ≡ fieldOf cond 3 1 → n ≡ bitOf w 31 → z ≡ bitOf w 30 → c ≡ bitOf w 29 → v ≡ bitOf w 28
+chosen : (cond w : ℕ) {test : ℕ} {n z c v : Bool} → test ≡ fieldOf cond 3 1 → n ≡ bitOf w 31 → z ≡ bitOf w 30 → c ≡ bitOf w 29
+    → v ≡ bitOf w 28
     → tested test n z c v ≡ testOf cond w
 chosen cond w t n z c v = rw (t, n, z, c, v)
 
@@ -35,7 +36,8 @@ returns c =
     let start = c .before .before .before .before .before .before in
     c .tested .ensures
     ∙ chosen (start .args .cond) (start .args .status) (c .before .before .before .before .before .field32 .ensures)
-    (c .before .before .before .before .bit .ensures) (c .before .before .before .bit2 .ensures) (c .before .before .bit3 .ensures) (c .before .bit4 .ensures)
+    (c .before .before .before .before .bit .ensures) (c .before .before .before .bit2 .ensures) (c .before .before .bit3 .ensures)
+    (c .before .bit4 .ensures)
 
 pub test-of-spec : {M : Type 1} → statement M
 test-of-spec =

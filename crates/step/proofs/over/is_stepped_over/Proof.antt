@@ -34,7 +34,8 @@ passes-requires c κs = search needs
 returns : tie.Need-returns
 returns c =
     let start = c .before .before .before .before .before in
-    tests (start .args .status) (start .args .what) (c .before .before .before .before .head .ensures) (c .before .maintains .ensures) (c .passes .ensures)
+    tests (start .args .status) (start .args .what) (c .before .before .before .before .head .ensures) (c .before .maintains .ensures)
+    (c .passes .ensures)
 
 pub is-stepped-over-spec : {M : Type 1} → statement M
 is-stepped-over-spec =

@@ -17,7 +17,8 @@ use Rattle.step.proofs.over.step_over.Tie as tie
 passed-had : (c : tie.Else1) → had (c .before .before .args .what) ≡ true
 passed-had c = sym (c .before .had .ensures) ∙ not-false _ (c .if1 .left)
 
-passed-sound : (c : tie.Else2) → sound (c .before .before .before .before .before .args .state .marks) (c .before .before .before .before .before .args .state .status) ≡ true
+passed-sound : (c : tie.Else2) → sound (c .before .before .before .before .before .args .state .marks)
+    (c .before .before .before .before .before .args .state .status) ≡ true
 passed-sound c = sym (c .before .sound .ensures) ∙ not-false _ (c .if2 .left)
 
 -- the state that was stepped to is the definition's
@@ -41,7 +42,8 @@ returns-2 : tie.Need-returns-2
 returns-2 c =
     let start = c .before .before .before .before .before in
     promised (start .args .state) (start .args .what)
-    (unsound (start .args .state) (start .args .what) (passed-had (c .before .before .before)) (sym (c .before .sound .ensures) ∙ not-true _ (c .if2 .taken)))
+    (unsound (start .args .state) (start .args .what) (passed-had (c .before .before .before))
+    (sym (c .before .sound .ensures) ∙ not-true _ (c .if2 .taken)))
 
 is-stepped-over-requires : tie.Need-is-stepped-over-requires
 is-stepped-over-requires c κs = search needs

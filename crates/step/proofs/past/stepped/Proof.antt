@@ -12,7 +12,8 @@ use Rattle.step.specs.Step.{bytesOf, stepped}
 use Rattle.step.proofs.past.stepped.Statement.{statement}
 use Rattle.step.proofs.past.stepped.Tie as tie
 
-all : (s : Guest) (regs : List ℕ) (il : Bool) {n pc status : ℕ} → n ≡ bytesOf il → pc ≡ (s .pc + n) % 2 ^ 32 → status ≡ itAdvanced (s .status)
+all : (s : Guest) (regs : List ℕ) (il : Bool) {n pc status : ℕ} → n ≡ bytesOf il → pc ≡ (s .pc + n) % 2 ^ 32
+    → status ≡ itAdvanced (s .status)
     → changed s regs pc status (s .saved) (s .faults) ≡ stepped s regs il
 unfolding stepped
 all s regs il n p t = changed-same s refl (p ∙ ap (λ (k : ℕ). (s .pc + k) % 2 ^ 32) n) t refl refl
@@ -29,7 +30,8 @@ it-advanced-requires c κs = search needs
 returns : tie.Need-returns
 returns c =
     let start = c .before .before .before in
-    all (start .args .state) (start .args .regs) (start .args .il) (c .before .before .bytes-of .ensures) (c .before .wrapping-add-u32 .ensures) (c .it-advanced .ensures)
+    all (start .args .state) (start .args .regs) (start .args .il) (c .before .before .bytes-of .ensures)
+    (c .before .wrapping-add-u32 .ensures) (c .it-advanced .ensures)
 
 pub stepped-spec : {M : Type 1} → statement M
 stepped-spec =
