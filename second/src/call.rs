@@ -487,12 +487,12 @@ impl Call {
             Call::Passes { status, record } => {
                 row![passes(&Status::unpack(*status), record)]
             }
-            Call::Step { state, record, .. } => match step_over(catalogue, state, record) {
+            Call::Step { state, record, .. } => match step_over(aarch32, state, record) {
                 Ok(after) => [row![0u8], state.changes_to(&after)].concat(),
                 Err(refusal) => row![refusal],
             },
             Call::Coprocess { values, state, record, .. } => {
-                match coprocess(catalogue, state, record, *values) {
+                match coprocess(aarch32, state, record, *values) {
                     Ok((given, after)) => {
                         let padded = [0, 1].map(|i| given.get(i).copied().unwrap_or(0));
                         let given = row![given.len() as u64, padded[0], padded[1]];

@@ -3,6 +3,7 @@
 
 use crate::a32::{describe, find, Form};
 use crate::catalogue::Catalogue;
+use crate::device::it_advance;
 use crate::form::Record;
 use crate::guest::State;
 use crate::status::Status;
@@ -71,10 +72,9 @@ fn tested(catalogue: &Catalogue, state: &State, record: &Record) -> Result<Statu
 /// The state past an instruction of a length.
 fn past(state: &State, length: u64) -> State {
     let status = Status::unpack(state.status);
-    let it = if status.it.is_multiple_of(8) { 0 } else { status.it / 32 * 32 + status.it * 2 % 32 };
     State {
         pc: ((u64::from(state.pc) + length) % (1 << 32)) as u32,
-        status: Status { it, ..status }.pack(),
+        status: Status { it: it_advance(status.it), ..status }.pack(),
         ..state.clone()
     }
 }
@@ -90,8 +90,9 @@ fn length(record: &Record) -> u64 {
 /// The state past an instruction that is stepped over, or the number of the refusal.
 pub fn step_over(catalogue: &Catalogue, state: &State, record: &Record) -> Result<State, u8> {
     let status = tested(catalogue, state, record)?;
-    let ours = matches!(record.class, 0x01 | 0x13) || record.is_set("CM");
-    if !ours && passes(&status, record) {
+    // A watchpoint has CM as well, and is no cache maintenance.
+    let maintenance = record.class == 0x24 && record.is_set("CM");
+    if !matches!(record.class, 0x01 | 0x13) && !maintenance && passes(&status, record) {
         return Err(18);
     }
     Ok(past(state, length(record)))

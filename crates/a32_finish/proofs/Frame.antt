@@ -101,7 +101,7 @@ frame-kept s w values = by-description s (describedAnswer s w) values
 gone-sound : (s : Guest) (regs : List ℕ) (next : Next) → sound (s .marks) (goneOn s regs next .status) ≡ sound (s .marks) (s .status)
 unfolding branched
 gone-sound s regs Next.After = step.sound-after s regs true
-gone-sound s regs (Next.Branch v) = sound-with-t (s .marks) (stepped s regs true .status) (bitOf v 0) ∙ step.sound-after s regs true
+gone-sound s regs (Next.Branch v) = sound-with-t (stepped s regs true .status) (bitOf v 0) (s .marks) ∙ step.sound-after s regs true
 
 performed-sound : (s : Guest) (a : Access) (numbers values : List ℕ) → sound (s .marks) (performed s a numbers values .state .status) ≡ sound (s .marks) (s .status)
 unfolding performed loaded stored

@@ -7,7 +7,7 @@ use crate::call::Call;
 use crate::cases::state;
 use crate::form::Record;
 use crate::guest::State;
-use crate::long::LONG;
+use crate::long::{Origin, LONG};
 use crate::random::Random;
 use crate::status::{Marks, Status, MODES};
 
@@ -101,7 +101,7 @@ fn conditions() -> Vec<Call> {
         turn.next();
     }
     let failing = status_with(0b1011, 0x04, true);
-    for record in samples().chain(calls(&LONG)) {
+    for record in samples(Origin::AArch32).chain(calls(&LONG)) {
         ask(failing, record.clone());
         if record.kind.has("COND") {
             ask(failing, with(&with(&record, "CV", 1), "COND", 0));
@@ -117,7 +117,7 @@ fn steps() -> Vec<(State, Record)> {
     let mut questions = Vec::new();
     let had = [wfi(), mrc(), mrrc(), maintenance(), record(&[7, 1, 1, 0xe, 1])];
     for status in [0x10, status_with(0b0100, 0x18, true)] {
-        for record in samples().chain(calls(&LONG)).chain(had.clone()) {
+        for record in samples(Origin::AArch32).chain(calls(&LONG)).chain(had.clone()) {
             questions.push((plain_state(status), record.clone()));
             if record.kind.has("COND") {
                 let stated = with(&record, "CV", 1);
@@ -188,7 +188,7 @@ fn transfers() -> Vec<Transferred> {
             questions.push(([value, 9], blank_state(status.pack()), flags));
         }
     }
-    for record in samples().chain(calls(&LONG)).chain(forms.iter().flat_map(fields_too_large)) {
+    for record in samples(Origin::AArch32).chain(calls(&LONG)).chain(forms.iter().flat_map(fields_too_large)) {
         questions.push((values, plain_state(0x1f), record));
     }
     for form in &forms {
@@ -240,7 +240,7 @@ type Finished = (u32, [u32; 16], State);
 fn finishes() -> Vec<Finished> {
     let mut questions = Vec::new();
     let mut random = Random::seeded(28);
-    let signs = [0x7f80_0180, 0x8081_7e82, 0x0000_0080, 0xffff_8000];
+    let signs: [u32; 4] = [0x7f80_0180, 0x8081_7e82, 0x0000_0080, 0xffff_8000];
     let described = accesses();
     for (turn, (word, state)) in described.iter().step_by(2).enumerate() {
         let values = std::array::from_fn(|i| signs[(turn + i) % 4].rotate_left(i as u32));

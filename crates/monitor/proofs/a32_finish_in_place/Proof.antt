@@ -130,18 +130,18 @@ module _ {M : Type 1} (𝓤 : URA M) (H : Heap 𝓤) (A : Atoms 𝓤) (W : Given
         move ! (12 ∷ 13 ∷ 14 ∷ []) $ opens ! tt G.the-row {h = h} b o (λ vs. spelt ! G.the-row (Is G.the-row) (shows 𝓤 H A G.the-row) (SL.vals G.the-type G′.the-laws) (SL.tells G.the-type G′.the-laws) fullShare h vs b o $
         move ! (1 ∷ []) $ peeks ! G.the-row (Is G.the-row) (shows 𝓤 H A G.the-row) h (state-val h ∷ []) (λ is-h. move ! (1 ∷ 0 ∷ []) $
         -- the context is now: the state's cell; what the old state owns; the open borrow; what observes the reference's value, and what holds it; room for `_5` and `_4`, the locals `_3`, `_2` and `_1`, and room for `_0`, each with what frees it
-        assigns ! (of-opd ! (load ! (from ! (hop ! (look ! 13 refl) (stop !))) (look-raw ! 0 refl))) (from ! (stop !)) (init ! 5 refl (SL.lawful G.the-type G′.the-laws 𝓤 H A W .typed h _ is-h .0)) $
+        assigns ! (of-opd ! (load ! (from ! (hop ! (look ! 13 refl) (stop !))) (look-raw ! 0 {τ = G′.mir} refl))) (from ! (stop !)) (init ! 5 {τ = G′.mir} refl (SL.lawful G.the-type G′.the-laws 𝓤 H A W .typed h _ is-h .0)) $
         owned ! G.the-row (Is G.the-row) (SL.makes G.the-type G′.the-plain 𝓤 H A) h _ is-h $ owned ! u32 (Is u32) (uint-makes 𝓤 H A W w32) n _ (refl, fits) $ owned ! Values (Is Values) (array-makes 𝓤 H A W u32 (uint-makes 𝓤 H A W w32) 16) xs _ is-xs $ join ! $
         use2 W (raw (Finish 𝓤 H A at-mem run .pre to-finish)) goes-finish $
-        calls-at ! fm (Finish 𝓤 H A at-mem run) known to-finish (and-then ! (load ! (from ! (stop !)) (look ! 6 refl)) (and-then ! (load ! (from ! (stop !)) (look ! 12 refl)) (and-then ! (load ! (from ! (stop !)) (look ! 10 refl)) (no-more !)))) (λ v.
+        calls-at ! fm (Finish 𝓤 H A at-mem run) known to-finish (and-then ! (load ! (from ! (stop !)) (look ! 6 {τ = G′.mir} refl)) (and-then ! (load ! (from ! (stop !)) (look ! 12 refl)) (and-then ! (load ! (from ! (stop !)) (look ! 10 refl)) (no-more !)))) (λ v.
         use1 W (later (some (λ (r : Finished). (‵ ftrue ⊛ ‵ (I.the-row .own r (v ∷ []))) ⊛ raw (ensured 𝓤 H A finish.ended (finish.clauses 𝓤 H A at-mem run) tt (h, (n, (xs, tt))) tt r)))) (id⊢ 𝓤 _) $ await ! tt $ pick ! (λ r.
         split ! $ move ! (1 ∷ []) $ use1 W (raw (fact 𝓤 (AccessPromise h n xs r))) (said 𝓤 H A at-mem run h n xs r) $ heard ! (AccessPromise h n xs r) (λ e. split ! $ drop ! $
         peeks ! I.the-row (Is I.the-row) (shows 𝓤 H A I.the-row) r (v ∷ []) (λ is-r.
-        land ! (from ! (stop !)) (init ! 8 refl (SL.lawful I.the-type I′.the-laws 𝓤 H A W .typed r _ is-r .0)) $
+        land ! (from ! (stop !)) (init ! 8 {τ = I′.mir} refl (SL.lawful I.the-type I′.the-laws 𝓤 H A W .typed r _ is-r .0)) $
         rewrite ! 8 (λ (us : List Val). ‵ (fat fullShare I′.mir l₄ 0 (only us))) (SL.tells I.the-type I′.the-laws r (v ∷ []) is-r) refl $ drop ! $
         -- the same context, with the copy in `_5` and the call's struct, written out, in `_4`; the type and place of each part are given, since antt would write them out at length
-        assigns ! (of-opd ! (load ! (from ! (fld ! refl (stop !))) (look-in ! 7 (sub ! 1 refl (whole !))))) (from ! (hop ! (look ! 13 refl) (stop !))) (store-raw ! 0 refl (SL.lawful G.the-type G′.the-laws 𝓤 H A W .typed (r .state) _ (new-state r is-r) .0)) $
-        assigns ! (of-opd ! (load ! (from ! (fld ! refl (stop !))) (look-in ! 7 (sub ! 0 refl (whole !))))) (from ! (stop !)) (init ! 15 refl (SL.lawful N.the-type N′.the-laws 𝓤 H A W .typed (r .outcome) _ (new-outcome r is-r) .0)) $
+        assigns ! (of-opd ! (load ! (from ! (fld ! refl (stop !))) (look-in ! 7 (sub ! 1 refl (whole !))))) (from ! (hop ! (look ! 13 refl) (stop !))) (store-raw ! 0 {τ = G′.mir} refl (SL.lawful G.the-type G′.the-laws 𝓤 H A W .typed (r .state) _ (new-state r is-r) .0)) $
+        assigns ! (of-opd ! (load ! (from ! (fld ! refl (stop !))) (look-in ! 7 (sub ! 0 refl (whole !))))) (from ! (stop !)) (init ! 15 {τ = N′.mir} refl (SL.lawful N.the-type N′.the-laws 𝓤 H A W .typed (r .outcome) _ (new-outcome r is-r) .0)) $
         move ! (1 ∷ []) $ drop ! $ owned ! G.the-row (Is G.the-row) (SL.makes G.the-type G′.the-plain 𝓤 H A) (r .state) _ (new-state r is-r) $ move ! (1 ∷ 0 ∷ []) $ closes ! tt G.the-row (r .state) (state-val (r .state) ∷ []) b o $
         returns ! (look ! 13 refl) $ forget ! 3 refl $ forget ! 5 refl $ forget ! 7 refl $ forget ! 9 refl $ forget ! 11 refl $ forget ! 13 refl $
         move ! (13 ∷ 14 ∷ []) $ free1 ! $ move ! (11 ∷ 12 ∷ []) $ free1 ! $ move ! (9 ∷ 10 ∷ []) $ free1 ! $ move ! (7 ∷ 8 ∷ []) $ free1 ! $ move ! (5 ∷ 6 ∷ []) $ free1 ! $ move ! (3 ∷ 4 ∷ []) $ free1 ! $ free0 ! $

@@ -123,22 +123,22 @@ module _ {M : Type 1} (𝓤 : URA M) (H : Heap 𝓤) (A : Atoms 𝓤) (W : Given
         qed W ((‵ (flft κ q) ⊛ ‵ ftrue) ∷ ‵ (owns (MutRef (named 0) κ G.the-row ∷ J.the-row ∷ []) x at) ∷ []) ∵ split ! $ move ! (2 ∷ []) $ fsplit ! $ fsplit3 ! $ drop ! $ move ! (0 ∷ 1 ∷ 3 ∷ []) $
         enter ! C Λ code.function (vptr b o ∷ what-val w ∷ []) _ $
         alloc1 ! (λ l₀. alloc1 ! (λ l₁. alloc1 ! (λ l₂. alloc1 ! (λ l₃. alloc1 ! (λ l₄. alloc0 ! $ params1 ! $
-        pass1 ! (init ! 6 refl (tt, tt)) $ pass1 ! (init ! 4 refl (EL.lawful J.the-type J′.the-laws 𝓤 H A W tt .typed w _ is-w .0)) $ pass0 ! $
+        pass1 ! (init ! 6 refl (tt, tt)) $ pass1 ! (init ! 4 {τ = J′.mir} refl (EL.lawful J.the-type J′.the-laws 𝓤 H A W tt .typed w _ is-w .0)) $ pass0 ! $
         move ! (10 ∷ 11 ∷ 12 ∷ []) $ opens ! tt G.the-row {h = h} b o (λ vs. spelt ! G.the-row (Is G.the-row) (shows 𝓤 H A G.the-row) (SL.vals G.the-type G′.the-laws) (SL.tells G.the-type G′.the-laws) fullShare h vs b o $
         move ! (1 ∷ []) $ peeks ! G.the-row (Is G.the-row) (shows 𝓤 H A G.the-row) h (state-val h ∷ []) (λ is-h. move ! (1 ∷ 0 ∷ []) $
         -- the context is now: the state's cell; what the old state owns; the open borrow; what observes the reference's value, and what holds it; room for `_4` and `_3`, the locals `_2` and `_1`, and room for `_0`, each with what frees it
-        assigns ! (of-opd ! (load ! (from ! (hop ! (look ! 11 refl) (stop !))) (look-raw ! 0 refl))) (from ! (stop !)) (init ! 5 refl (SL.lawful G.the-type G′.the-laws 𝓤 H A W .typed h _ is-h .0)) $
+        assigns ! (of-opd ! (load ! (from ! (hop ! (look ! 11 refl) (stop !))) (look-raw ! 0 {τ = G′.mir} refl))) (from ! (stop !)) (init ! 5 {τ = G′.mir} refl (SL.lawful G.the-type G′.the-laws 𝓤 H A W .typed h _ is-h .0)) $
         owned ! G.the-row (Is G.the-row) (SL.makes G.the-type G′.the-plain 𝓤 H A) h _ is-h $ owned ! J.the-row (Is J.the-row) (EL.makes J.the-type J′.the-plain 𝓤 H A) w _ is-w $
         use2 W (raw (Over 𝓤 H A at-mem run .pre to-step)) goes-step $
-        calls-at ! fm (Over 𝓤 H A at-mem run) known to-step (and-then ! (load ! (from ! (stop !)) (look ! 6 refl)) (and-then ! (load ! (from ! (stop !)) (look ! 10 refl)) (no-more !))) (λ v.
+        calls-at ! fm (Over 𝓤 H A at-mem run) known to-step (and-then ! (load ! (from ! (stop !)) (look ! 6 {τ = G′.mir} refl)) (and-then ! (load ! (from ! (stop !)) (look ! 10 {τ = J′.mir} refl)) (no-more !))) (λ v.
         use1 W (later (some (λ (r : SteppedOver). (‵ ftrue ⊛ ‵ (I.the-row .own r (v ∷ []))) ⊛ raw (ensured 𝓤 H A step-over.ended (step-over.clauses 𝓤 H A at-mem run) tt (h, (w, tt)) tt r)))) (id⊢ 𝓤 _) $ await ! tt $ pick ! (λ r.
         split ! $ move ! (1 ∷ []) $ use1 W (raw (fact 𝓤 (StepPromise h w r))) (said 𝓤 H A at-mem run h w r) $ heard ! (StepPromise h w r) (λ e. split ! $ drop ! $
         peeks ! I.the-row (Is I.the-row) (shows 𝓤 H A I.the-row) r (v ∷ []) (λ is-r.
-        land ! (from ! (stop !)) (init ! 8 refl (SL.lawful I.the-type I′.the-laws 𝓤 H A W .typed r _ is-r .0)) $
+        land ! (from ! (stop !)) (init ! 8 {τ = I′.mir} refl (SL.lawful I.the-type I′.the-laws 𝓤 H A W .typed r _ is-r .0)) $
         rewrite ! 8 (λ (us : List Val). ‵ (fat fullShare I′.mir l₃ 0 (only us))) (SL.tells I.the-type I′.the-laws r (v ∷ []) is-r) refl $ drop ! $
         -- the same context, with the copy in `_4` and the call's struct, written out, in `_3`
-        assigns ! (of-opd ! (load ! (from ! (fld ! refl (stop !))) (look-in ! 7 (sub ! 1 refl (whole !))))) (from ! (hop ! (look ! 11 refl) (stop !))) (store-raw ! 0 refl (SL.lawful G.the-type G′.the-laws 𝓤 H A W .typed (r .state) _ (new-state r is-r) .0)) $
-        assigns ! (of-opd ! (load ! (from ! (fld ! refl (stop !))) (look-in ! 7 (sub ! 0 refl (whole !))))) (from ! (stop !)) (init ! 13 refl (EL.lawful N.the-type N′.the-laws 𝓤 H A W tt .typed (r .answer) _ (new-answer r is-r) .0)) $
+        assigns ! (of-opd ! (load ! (from ! (fld ! refl (stop !))) (look-in ! 7 (sub ! 1 refl (whole !))))) (from ! (hop ! (look ! 11 refl) (stop !))) (store-raw ! 0 {τ = G′.mir} refl (SL.lawful G.the-type G′.the-laws 𝓤 H A W .typed (r .state) _ (new-state r is-r) .0)) $
+        assigns ! (of-opd ! (load ! (from ! (fld ! refl (stop !))) (look-in ! 7 (sub ! 0 refl (whole !))))) (from ! (stop !)) (init ! 13 {τ = N′.mir} refl (EL.lawful N.the-type N′.the-laws 𝓤 H A W tt .typed (r .answer) _ (new-answer r is-r) .0)) $
         move ! (1 ∷ []) $ drop ! $ owned ! G.the-row (Is G.the-row) (SL.makes G.the-type G′.the-plain 𝓤 H A) (r .state) _ (new-state r is-r) $ move ! (1 ∷ 0 ∷ []) $ closes ! tt G.the-row (r .state) (state-val (r .state) ∷ []) b o $
         returns ! (look ! 11 refl) $ forget ! 3 refl $ forget ! 5 refl $ forget ! 7 refl $ forget ! 9 refl $ forget ! 11 refl $
         move ! (11 ∷ 12 ∷ []) $ free1 ! $ move ! (9 ∷ 10 ∷ []) $ free1 ! $ move ! (7 ∷ 8 ∷ []) $ free1 ! $ move ! (5 ∷ 6 ∷ []) $ free1 ! $ move ! (3 ∷ 4 ∷ []) $ free1 ! $ free0 ! $

@@ -127,8 +127,8 @@ module _ {M : Type 1} (𝓤 : URA M) (H : Heap 𝓤) (A : Atoms 𝓤) (W : Given
         qed W (‵ ftrue ∷ ‵ (owns (G.the-row ∷ J.the-row ∷ u32 ∷ u32 ∷ []) (h, (w, (n, (m, tt)))) (state-val h ∷ [], (what-val w ∷ [], (vint w32 n ∷ [], (vint w32 m ∷ [], tt))))) ∷ []) ∵ drop ! $ drop ! $
         enter ! C Λ code.function (state-val h ∷ what-val w ∷ vint w32 n ∷ vint w32 m ∷ []) _ $
         alloc1 ! (λ l₀. alloc1 ! (λ l₁. alloc1 ! (λ l₂. alloc1 ! (λ l₃. alloc1 ! (λ l₄. alloc1 ! (λ l₅. alloc1 ! (λ l₆. alloc1 ! (λ l₇. alloc1 ! (λ l₈. alloc0 ! $ params1 ! $
-        pass1 ! (init ! 14 refl (SL.lawful G.the-type G′.the-laws 𝓤 H A W .typed h _ is-h .0)) $ pass1 ! (init ! 12 refl (EL.lawful J.the-type J′.the-laws 𝓤 H A W tt .typed w _ is-w .0)) $ pass1 ! (init ! 10 refl (tt, record { fits = fits })) $ pass1 ! (init ! 8 refl (tt, record { fits = fits2 })) $ pass0 ! $
-        assigns ! (of-opd ! (load ! (from ! (stop !)) (look ! 14 refl))) (from ! (stop !)) (init ! 6 refl (SL.lawful G.the-type G′.the-laws 𝓤 H A W .typed h _ is-h .0)) $
+        pass1 ! (init ! 14 {τ = G′.mir} refl (SL.lawful G.the-type G′.the-laws 𝓤 H A W .typed h _ is-h .0)) $ pass1 ! (init ! 12 {τ = J′.mir} refl (EL.lawful J.the-type J′.the-laws 𝓤 H A W tt .typed w _ is-w .0)) $ pass1 ! (init ! 10 refl (tt, record { fits = fits })) $ pass1 ! (init ! 8 refl (tt, record { fits = fits2 })) $ pass0 ! $
+        assigns ! (of-opd ! (load ! (from ! (stop !)) (look ! 14 {τ = G′.mir} refl))) (from ! (stop !)) (init ! 6 {τ = G′.mir} refl (SL.lawful G.the-type G′.the-laws 𝓤 H A W .typed h _ is-h .0)) $
         assigns ! (addr ! (from ! (stop !))) (from ! (stop !)) (init ! 2 refl (tt, tt)) $
         -- the memory of `_5` is lent
         owned ! G.the-row (Is G.the-row) (SL.makes G.the-type G′.the-plain 𝓤 H A) h _ is-h $ move ! (7 ∷ 0 ∷ []) $
@@ -137,22 +137,22 @@ module _ {M : Type 1} (𝓤 : URA M) (H : Heap 𝓤) (A : Atoms 𝓤) (W : Given
         use1 W (later (some (λ (δ : GName). ‵ (ref-own l₅ α δ) ⊛ ‵ (flent (α ∷ []) (Body (mem G.the-row) l₅ 0 δ))))) (lends-ref 𝓤 H A W G.the-row (named 0) (α ∷ []) h l₅ 0) $ await ! tt $ pick ! (λ δ. split ! $
         owned ! J.the-row (Is J.the-row) (EL.makes J.the-type J′.the-plain 𝓤 H A) w _ is-w $ owned ! u32 (Is u32) (uint-makes 𝓤 H A W w32) n _ (refl, fits) $ owned ! u32 (Is u32) (uint-makes 𝓤 H A W w32) m _ (refl, fits2) $ join ! $ join ! $ move ! (3 ∷ 1 ∷ 0 ∷ []) $
         use3 W (raw (InPlace 𝓤 H A at-mem run .pre (to-call l₅ α δ))) (goes-call l₅ α δ) $
-        calls-at ! fm (InPlace 𝓤 H A at-mem run) known (to-call l₅ α δ) (and-then ! (load ! (from ! (stop !)) (look ! 4 refl)) (and-then ! (load ! (from ! (stop !)) (look ! 13 refl)) (and-then ! (load ! (from ! (stop !)) (look ! 11 refl)) (and-then ! (load ! (from ! (stop !)) (look ! 9 refl)) (no-more !))))) (λ v.
+        calls-at ! fm (InPlace 𝓤 H A at-mem run) known (to-call l₅ α δ) (and-then ! (load ! (from ! (stop !)) (look ! 4 refl)) (and-then ! (load ! (from ! (stop !)) (look ! 13 {τ = J′.mir} refl)) (and-then ! (load ! (from ! (stop !)) (look ! 11 refl)) (and-then ! (load ! (from ! (stop !)) (look ! 9 refl)) (no-more !))))) (λ v.
         use1 W (later (some (λ (r : Answer). ((‵ (flft (α ∷ []) fullShare) ⊛ ‵ ftrue) ⊛ ‵ (N.the-row .own r (v ∷ [])))
         ⊛ some (λ (ws : Guest × (Unit {0} × (Unit {0} × (Unit {0} × Unit {0})))). (‵ (fres δ (G.the-row .coded .code (ws .0))) ⊛ (‵ ftrue ⊛ (‵ ftrue ⊛ (‵ ftrue ⊛ ‵ ftrue)))) ⊛ raw (fact 𝓤 (TransferPromise h w n m (both r (ws .0)))))))) (id⊢ 𝓤 _) $ await ! tt $ pick ! (λ r.
         split ! $ move ! (1 ∷ []) $ pick ! (λ ws. split ! $ move ! (1 ∷ []) $ heard ! (TransferPromise h w n m (both r (ws .0))) (λ e. split ! $ move ! (2 ∷ []) $ split ! $ move ! (1 ∷ []) $
         peeks ! N.the-row (Is N.the-row) (shows 𝓤 H A N.the-row) r (v ∷ []) (λ is-r.
-        land ! (from ! (stop !)) (init ! 9 refl (EL.lawful N.the-type N′.the-laws 𝓤 H A W tt .typed r _ is-r .0)) $
+        land ! (from ! (stop !)) (init ! 9 {τ = N′.mir} refl (EL.lawful N.the-type N′.the-laws 𝓤 H A W tt .typed r _ is-r .0)) $
         rewrite ! 9 (λ (us : List Val). ‵ (fat fullShare N′.mir l₆ 0 (only us))) (EL.tells N.the-type N′.the-laws r (v ∷ []) is-r) refl $ drop ! $ split ! $
         -- the lifetime ends, and the memory of `_5` comes back
         lft-end ! tt $ move ! (0 ∷ 4 ∷ 2 ∷ []) $ use3 W (later (‵ (partAt G.the-row fullShare (ws .0) l₅ 0))) (ref-back 𝓤 H A W G.the-row (α ∷ []) δ (ws .0) l₅ 0) $ await ! tt $
         use1 W (some (λ (u : Val). ‵ (fat fullShare G′.mir l₅ 0 u) ⊛ ‵ (G.the-row .own (ws .0) (u ∷ [])))) (part-out-at 𝓤 H A W G.the-row refl fullShare (ws .0) l₅ 0 G′.mir refl) $ pick ! (λ u. split ! $ move ! (1 ∷ []) $
         peeks ! G.the-row (Is G.the-row) (shows 𝓤 H A G.the-row) (ws .0) (u ∷ []) (λ is-s.
         rewrite ! 1 (λ (us : List Val). ‵ (fat fullShare G′.mir l₅ 0 (only us))) (SL.tells G.the-type G′.the-laws (ws .0) (u ∷ []) is-s) refl $
-        assigns ! (of-opd ! (load ! (from ! (stop !)) (look ! 1 refl))) (from ! (stop !)) (init ! 4 refl (SL.lawful G.the-type G′.the-laws 𝓤 H A W .typed (ws .0) _ (state-is (ws .0) is-s) .0)) $
-        assigns ! (agg ! (and-then ! (load ! (from ! (stop !)) (look ! 8 refl)) (and-then ! (load ! (from ! (stop !)) (look ! 4 refl)) (no-more !)))) (from ! (stop !))
-        (init ! 19 refl (SL.lawful I.the-type I′.the-laws 𝓤 H A W .typed (both r (ws .0)) _ (both-is r (ws .0) is-r is-s) .0)) $
-        returns ! (look ! 19 refl) $ forget ! 1 refl $ forget ! 4 refl $ forget ! 6 refl $ forget ! 8 refl $ forget ! 11 refl $ forget ! 13 refl $ forget ! 15 refl $ forget ! 17 refl $ forget ! 19 refl $
+        assigns ! (of-opd ! (load ! (from ! (stop !)) (look ! 1 {τ = G′.mir} refl))) (from ! (stop !)) (init ! 4 {τ = G′.mir} refl (SL.lawful G.the-type G′.the-laws 𝓤 H A W .typed (ws .0) _ (state-is (ws .0) is-s) .0)) $
+        assigns ! (agg ! (and-then ! (load ! (from ! (stop !)) (look ! 8 {τ = N′.mir} refl)) (and-then ! (load ! (from ! (stop !)) (look ! 4 {τ = G′.mir} refl)) (no-more !)))) (from ! (stop !))
+        (init ! 19 {τ = I′.mir} refl (SL.lawful I.the-type I′.the-laws 𝓤 H A W .typed (both r (ws .0)) _ (both-is r (ws .0) is-r is-s) .0)) $
+        returns ! (look ! 19 {τ = I′.mir} refl) $ forget ! 1 refl $ forget ! 4 refl $ forget ! 6 refl $ forget ! 8 refl $ forget ! 11 refl $ forget ! 13 refl $ forget ! 15 refl $ forget ! 17 refl $ forget ! 19 refl $
         move ! (19 ∷ 20 ∷ []) $ free1 ! $ move ! (17 ∷ 18 ∷ []) $ free1 ! $ move ! (15 ∷ 16 ∷ []) $ free1 ! $ move ! (13 ∷ 14 ∷ []) $ free1 ! $ move ! (11 ∷ 12 ∷ []) $ free1 ! $ move ! (1 ∷ 10 ∷ []) $ free1 ! $
         move ! (7 ∷ 8 ∷ []) $ free1 ! $ move ! (5 ∷ 6 ∷ []) $ free1 ! $ move ! (3 ∷ 4 ∷ []) $ free1 ! $ free0 ! $
         keep ! [] $ by ! (exits (both r (ws .0)) (both-is r (ws .0) is-r is-s) e)))))))))))))))))))

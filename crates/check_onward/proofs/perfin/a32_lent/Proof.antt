@@ -128,8 +128,8 @@ module _ {M : Type 1} (𝓤 : URA M) (H : Heap 𝓤) (A : Atoms 𝓤) (W : Given
         qed W (‵ ftrue ∷ ‵ (owns (G.the-row ∷ u32 ∷ Values ∷ []) (h, (n, (xs, tt))) (state-val h ∷ [], (vint w32 n ∷ [], (values-val xs ∷ [], tt)))) ∷ []) ∵ drop ! $ drop ! $
         enter ! C Λ code.function (state-val h ∷ vint w32 n ∷ values-val xs ∷ []) _ $
         alloc1 ! (λ l₀. alloc1 ! (λ l₁. alloc1 ! (λ l₂. alloc1 ! (λ l₃. alloc1 ! (λ l₄. alloc1 ! (λ l₅. alloc1 ! (λ l₆. alloc1 ! (λ l₇. alloc0 ! $ params1 ! $
-        pass1 ! (init ! 12 refl (SL.lawful G.the-type G′.the-laws 𝓤 H A W .typed h _ is-h .0)) $ pass1 ! (init ! 10 refl (tt, record { fits = fits })) $ pass1 ! (init ! 8 refl (array-lawful 𝓤 H A W u32 (uint-lawful 𝓤 H A W w32) 16 .typed xs _ is-xs .0)) $ pass0 ! $
-        assigns ! (of-opd ! (load ! (from ! (stop !)) (look ! 12 refl))) (from ! (stop !)) (init ! 6 refl (SL.lawful G.the-type G′.the-laws 𝓤 H A W .typed h _ is-h .0)) $
+        pass1 ! (init ! 12 {τ = G′.mir} refl (SL.lawful G.the-type G′.the-laws 𝓤 H A W .typed h _ is-h .0)) $ pass1 ! (init ! 10 refl (tt, record { fits = fits })) $ pass1 ! (init ! 8 refl (array-lawful 𝓤 H A W u32 (uint-lawful 𝓤 H A W w32) 16 .typed xs _ is-xs .0)) $ pass0 ! $
+        assigns ! (of-opd ! (load ! (from ! (stop !)) (look ! 12 {τ = G′.mir} refl))) (from ! (stop !)) (init ! 6 {τ = G′.mir} refl (SL.lawful G.the-type G′.the-laws 𝓤 H A W .typed h _ is-h .0)) $
         assigns ! (addr ! (from ! (stop !))) (from ! (stop !)) (init ! 2 refl (tt, tt)) $
         -- the memory of `_4` is lent
         owned ! G.the-row (Is G.the-row) (SL.makes G.the-type G′.the-plain 𝓤 H A) h _ is-h $ move ! (7 ∷ 0 ∷ []) $
@@ -143,17 +143,17 @@ module _ {M : Type 1} (𝓤 : URA M) (H : Heap 𝓤) (A : Atoms 𝓤) (W : Given
         ⊛ some (λ (ws : Guest × (Unit {0} × (Unit {0} × Unit {0}))). (‵ (fres δ (G.the-row .coded .code (ws .0))) ⊛ (‵ ftrue ⊛ (‵ ftrue ⊛ ‵ ftrue))) ⊛ raw (fact 𝓤 (AccessPromise h n xs (both r (ws .0)))))))) (id⊢ 𝓤 _) $ await ! tt $ pick ! (λ r.
         split ! $ move ! (1 ∷ []) $ pick ! (λ ws. split ! $ move ! (1 ∷ []) $ heard ! (AccessPromise h n xs (both r (ws .0))) (λ e. split ! $ move ! (2 ∷ []) $ split ! $ move ! (1 ∷ []) $
         peeks ! N.the-row (Is N.the-row) (shows 𝓤 H A N.the-row) r (v ∷ []) (λ is-r.
-        land ! (from ! (stop !)) (init ! 9 refl (SL.lawful N.the-type N′.the-laws 𝓤 H A W .typed r _ is-r .0)) $
+        land ! (from ! (stop !)) (init ! 9 {τ = N′.mir} refl (SL.lawful N.the-type N′.the-laws 𝓤 H A W .typed r _ is-r .0)) $
         rewrite ! 9 (λ (us : List Val). ‵ (fat fullShare N′.mir l₅ 0 (only us))) (SL.tells N.the-type N′.the-laws r (v ∷ []) is-r) refl $ drop ! $ split ! $
         -- the lifetime ends, and the memory of `_4` comes back
         lft-end ! tt $ move ! (0 ∷ 4 ∷ 2 ∷ []) $ use3 W (later (‵ (partAt G.the-row fullShare (ws .0) l₄ 0))) (ref-back 𝓤 H A W G.the-row (α ∷ []) δ (ws .0) l₄ 0) $ await ! tt $
         use1 W (some (λ (u : Val). ‵ (fat fullShare G′.mir l₄ 0 u) ⊛ ‵ (G.the-row .own (ws .0) (u ∷ [])))) (part-out-at 𝓤 H A W G.the-row refl fullShare (ws .0) l₄ 0 G′.mir refl) $ pick ! (λ u. split ! $ move ! (1 ∷ []) $
         peeks ! G.the-row (Is G.the-row) (shows 𝓤 H A G.the-row) (ws .0) (u ∷ []) (λ is-s.
         rewrite ! 1 (λ (us : List Val). ‵ (fat fullShare G′.mir l₄ 0 (only us))) (SL.tells G.the-type G′.the-laws (ws .0) (u ∷ []) is-s) refl $
-        assigns ! (of-opd ! (load ! (from ! (stop !)) (look ! 1 refl))) (from ! (stop !)) (init ! 4 refl (SL.lawful G.the-type G′.the-laws 𝓤 H A W .typed (ws .0) _ (state-is (ws .0) is-s) .0)) $
-        assigns ! (agg ! (and-then ! (load ! (from ! (stop !)) (look ! 8 refl)) (and-then ! (load ! (from ! (stop !)) (look ! 4 refl)) (no-more !)))) (from ! (stop !))
-        (init ! 17 refl (SL.lawful I.the-type I′.the-laws 𝓤 H A W .typed (both r (ws .0)) _ (both-is r (ws .0) is-r is-s) .0)) $
-        returns ! (look ! 17 refl) $ forget ! 1 refl $ forget ! 4 refl $ forget ! 6 refl $ forget ! 8 refl $ forget ! 11 refl $ forget ! 13 refl $ forget ! 15 refl $ forget ! 17 refl $
+        assigns ! (of-opd ! (load ! (from ! (stop !)) (look ! 1 {τ = G′.mir} refl))) (from ! (stop !)) (init ! 4 {τ = G′.mir} refl (SL.lawful G.the-type G′.the-laws 𝓤 H A W .typed (ws .0) _ (state-is (ws .0) is-s) .0)) $
+        assigns ! (agg ! (and-then ! (load ! (from ! (stop !)) (look ! 8 {τ = N′.mir} refl)) (and-then ! (load ! (from ! (stop !)) (look ! 4 {τ = G′.mir} refl)) (no-more !)))) (from ! (stop !))
+        (init ! 17 {τ = I′.mir} refl (SL.lawful I.the-type I′.the-laws 𝓤 H A W .typed (both r (ws .0)) _ (both-is r (ws .0) is-r is-s) .0)) $
+        returns ! (look ! 17 {τ = I′.mir} refl) $ forget ! 1 refl $ forget ! 4 refl $ forget ! 6 refl $ forget ! 8 refl $ forget ! 11 refl $ forget ! 13 refl $ forget ! 15 refl $ forget ! 17 refl $
         move ! (17 ∷ 18 ∷ []) $ free1 ! $ move ! (15 ∷ 16 ∷ []) $ free1 ! $ move ! (13 ∷ 14 ∷ []) $ free1 ! $ move ! (11 ∷ 12 ∷ []) $ free1 ! $ move ! (1 ∷ 10 ∷ []) $ free1 ! $
         move ! (7 ∷ 8 ∷ []) $ free1 ! $ move ! (5 ∷ 6 ∷ []) $ free1 ! $ move ! (3 ∷ 4 ∷ []) $ free1 ! $ free0 ! $
         keep ! [] $ by ! (exits (both r (ws .0)) (both-is r (ws .0) is-r is-s) e))))))))))))))))))
