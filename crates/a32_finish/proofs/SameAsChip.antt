@@ -3,9 +3,11 @@
 use mathlib.Core.Path.{_≡_, refl, sym, ap, ap₂, _∙_}
 use mathlib.Core.Bool.{Bool, true, false, not, _&&_, cond}
 use mathlib.Core.List.{List, [], _∷_}
-use Prim.Native.Nat.{ℕ, min}
-use lib.Dec.{eqb, leb}
-use lib.ListN.{getD}
+use Prim.Native.Nat.{ℕ, _≤_, min}
+use native.Mathlib.Omega.{arith}
+use lib.Dec.{eqb}
+use lib.ListN.{getD, length}
+use borrow.Author.Tests.{le-leb, ne-eqb}
 use Rattle.bits.specs.Field.{fieldOf}
 use Rattle.record.specs.declared.kinds.DataAbort.{DataAbort}
 use Rattle.record.specs.declared.kinds.Record.{Record}
@@ -24,9 +26,12 @@ use Rattle.device.specs.declared.answer.Answer.the-variants as device-answer
 use Rattle.device.specs.declared.access.Finished.{Finished as DeviceFinished}
 use Rattle.device.proofs.Answers as device-laws
 use Rattle.a32_fields.specs.declared.kinds.Fields.{Fields}
+use Rattle.a32_rule.specs.Legal.{legal}
+use Rattle.a32_access.specs.declared.access.Access.{Access}
 use Rattle.a32_access.specs.Transferred.{registersOf, countOf, padded}
 use Rattle.a32_access.specs.Place.{backOf}
 use Rattle.a32_access.specs.Value.{heldValue, programCounter, valueOf}
+use Rattle.a32_access.proofs.Counts.{count-length}
 use Rattle.a32_transfer.specs.declared.landing.Landing.{Landing}
 use Rattle.a32_transfer.specs.declared.landing.Next.{Next}
 use Rattle.a32_transfer.specs.declared.shape.Shape.{Shape}
@@ -35,6 +40,7 @@ use Rattle.a32_transfer.specs.Landing.{withHeld, arrived, loadTo, loadedFirst, 
 use Rattle.a32_transfer.specs.Giving.{firsts, givenAt}
 use Rattle.a32.specs.declared.instruction.Answer.the-variants as described
 use Rattle.a32.specs.Promise.{accessOf, describedAnswer}
+use Rattle.a32.proofs.Laws.{described-exactly}
 use Rattle.a32_finish.specs.declared.answer.Finished.{Finished}
 use Rattle.a32_finish.specs.Finish.{modeOf, goneOn, landingIn, loaded, stored, givenIn, toLoad, toStore, performed, finished}
 use Rattle.a32_finish.proofs.Answers.{settled}
@@ -42,10 +48,8 @@ use Rattle.a32_finish.proofs.Answers.{settled}
 -- an instruction of one register t of 0 to 14, without write-back
 pub record One (f : Fields) (t : ℕ) : Type 0 where
   pub registers : registersOf f ≡ (t ∷ [])
-  pub count : countOf f ≡ 1
   pub stays : backOf f ≡ false
-  pub low : leb t 14 ≡ true
-  pub not-15 : eqb t 15 ≡ false
+  pub below : t ≤ 14
 
 -- the record tells of that instruction: its size and extension, the state's number of its register, its direction, and its length
 pub record Tells (s : Guest) (f : Fields) (t : ℕ) (r : DataAbort) : Type 0 where
@@ -56,7 +60,9 @@ pub record Tells (s : Guest) (f : Fields) (t : ℕ) (r : DataAbort) : Type 0 whe
   pub wnr : r .wnr ≡ not (shapeOf f .load)
   pub il : r .il ≡ true
 
-module _ (s : Guest) (f : Fields) (t : ℕ) (r : DataAbort) (values : List ℕ) (one : One f t) (tells : Tells s f t r) (good : sound (s .marks) (s .status) ≡ true) where
+-- the word is described by its fields f, and some edition has the record
+module _ (s : Guest) {w : ℕ} (f : Fields) (t : ℕ) (r : DataAbort) (values : List ℕ) (one : One f t) (tells : Tells s f t r)
+    (d : describedAnswer s w ≡ described.Taken (accessOf s f)) (h : had (Record.DataAbort r) ≡ true) where
   abbrev mode : ℕ
   mode = modeOf (s .status)
 
@@ -69,10 +75,23 @@ module _ (s : Guest) (f : Fields) (t : ℕ) (r : DataAbort) (values : List ℕ) 
   abbrev numbers : List ℕ
   numbers = padded 16 (registersOf f)
 
+  -- what is described is sound, and its fields are legal, so that there is one register
+  good : sound (s .marks) (s .status) ≡ true
+  good = described-exactly s w (accessOf s f) .0 d .0
+
+  counted : countOf f ≡ 1
+  counted = count-length f lawful ∙ ap length (one .registers)
+    where
+      lawful : legal f ≡ true
+      lawful = let e = described-exactly s w (accessOf s f) .0 d .2 in ap (λ (a : Access). legal (a .fields)) (e .3) ∙ e .1
+
+  not-15 : eqb t 15 ≡ false
+  not-15 = let below = one .below in ne-eqb t 15 (λ e. omega arith)
+
   -- where the register stands
   held : heldIn mode t ≡ Held.Register (r .srt)
   held =
-      ap₂ (λ (a b : Bool). cond (a && b) (Held.Register (numberIn mode t)) Held.Nowhere) (is-sound (s .marks) (s .status) good .mode) (one .low)
+      ap₂ (λ (a b : Bool). cond (a && b) (Held.Register (numberIn mode t)) Held.Nowhere) (is-sound (s .marks) (s .status) good .mode) (le-leb t 14 (one .below))
       ∙ ap Held.Register (sym (tells .srt))
 
   kept-back : writtenBack (s .regs) (s .pc) mode (accessOf s f) ≡ s .regs
@@ -87,7 +106,7 @@ module _ (s : Guest) (f : Fields) (t : ℕ) (r : DataAbort) (values : List ℕ) 
 
   loaded-one : (v : ℕ) → loadTo mode start t v ≡ with-value v
   loaded-one v =
-      ap (λ (b : Bool). cond b (record { regs = s .regs; next = Next.Branch v }) (record { regs = withHeld (s .regs) (heldIn mode t) v; next = Next.After })) (one .not-15)
+      ap (λ (b : Bool). cond b (record { regs = s .regs; next = Next.Branch v }) (record { regs = withHeld (s .regs) (heldIn mode t) v; next = Next.After })) not-15
       ∙ ap (λ (h : Held). landing (withHeld (s .regs) h v)) held
     where
       landing : List ℕ → Landing
@@ -96,7 +115,7 @@ module _ (s : Guest) (f : Fields) (t : ℕ) (r : DataAbort) (values : List ℕ) 
   landing : landingIn s (accessOf s f) shape numbers values ≡ with-value (arrived shape big (getD values 0 0))
   unfolding loadedFirst
   landing =
-      ap₂ (λ (l : List ℕ) (n : ℕ). loadedFirst l mode big shape numbers values (min n 16)) kept-back (one .count)
+      ap₂ (λ (l : List ℕ) (n : ℕ). loadedFirst l mode big shape numbers values (min n 16)) kept-back counted
       ∙ ap (λ (l : List ℕ). loadTo mode start (getD (padded 16 l) 0 0) (arrived shape big (getD values 0 0))) (one .registers)
       ∙ loaded-one (arrived shape big (getD values 0 0))
 
@@ -119,21 +138,27 @@ module _ (s : Guest) (f : Fields) (t : ℕ) (r : DataAbort) (values : List ℕ) 
   register-value : valueOf (s .regs) (s .pc) mode t ≡ registerIn (s .regs) (r .srt)
   unfolding valueOf
   register-value =
-      ap (λ (b : Bool). cond b (programCounter (s .pc)) (heldValue (s .regs) (heldIn mode t))) (one .not-15) ∙ ap (heldValue (s .regs)) held
+      ap (λ (b : Bool). cond b (programCounter (s .pc)) (heldValue (s .regs) (heldIn mode t))) not-15 ∙ ap (heldValue (s .regs)) held
 
   given-first : getD (givenIn s (accessOf s f) shape numbers) 0 0 ≡ transferred (r .sas) big (registerIn (s .regs) (r .srt))
   unfolding firsts
   given-first =
-      ap (λ (n : ℕ). getD (padded 16 (firsts (givenAt (s .regs) (s .pc) mode big (shape .sas) numbers) (min n 16))) 0 0) (one .count)
+      ap (λ (n : ℕ). getD (padded 16 (firsts (givenAt (s .regs) (s .pc) mode big (shape .sas) numbers) (min n 16))) 0 0) counted
       ∙ ap (λ (l : List ℕ). transferred (shape .sas) big (valueOf (s .regs) (s .pc) mode (getD (padded 16 l) 0 0))) (one .registers)
       ∙ ap₂ (λ (n : ℕ) (v : ℕ). transferred n big v) (sym (tells .sas)) register-value
 
   -- ---- the two calls
-  chip : had (Record.DataAbort r) ≡ true → device.accessed s r (getD values 0 0) ≡ device.finished s (Record.DataAbort r) (getD values 0 0)
-  chip h = device-laws.taken s r (getD values 0 0) h good (tells .isv)
+  abbrev by-word : Finished
+  by-word = finished s w values
 
-  word : {w : ℕ} → describedAnswer s w ≡ described.Taken (accessOf s f) → performed s (accessOf s f) numbers values ≡ finished s w values
-  word e = settled s _ values e
+  abbrev by-chip : DeviceFinished
+  by-chip = device.finished s (Record.DataAbort r) (getD values 0 0)
+
+  chip : device.accessed s r (getD values 0 0) ≡ by-chip
+  chip = device-laws.taken s r (getD values 0 0) h good (tells .isv)
+
+  word : performed s (accessOf s f) numbers values ≡ by-word
+  word = settled s w values d
 
   performed-load : shape .load ≡ true → performed s (accessOf s f) numbers values ≡ toLoad s (accessOf s f) shape numbers values
   unfolding performed
@@ -145,37 +170,29 @@ module _ (s : Guest) (f : Fields) (t : ℕ) (r : DataAbort) (values : List ℕ) 
 
   accessed-load : shape .load ≡ true → device.accessed s r (getD values 0 0) ≡ device.loaded s r (getD values 0 0)
   unfolding device.accessed
-  accessed-load l =
-      ap (λ (b : Bool). cond b (device.stored s r) (device.loaded s r (getD values 0 0))) (tells .wnr ∙ ap not l)
+  accessed-load l = ap (λ (b : Bool). cond b (device.stored s r) (device.loaded s r (getD values 0 0))) (tells .wnr ∙ ap not l)
 
   accessed-store : shape .load ≡ false → device.accessed s r (getD values 0 0) ≡ device.stored s r
   unfolding device.accessed
-  accessed-store l =
-      ap (λ (b : Bool). cond b (device.stored s r) (device.loaded s r (getD values 0 0))) (tells .wnr ∙ ap not l)
+  accessed-store l = ap (λ (b : Bool). cond b (device.stored s r) (device.loaded s r (getD values 0 0))) (tells .wnr ∙ ap not l)
 
-  module _ {w : ℕ} (d : describedAnswer s w ≡ described.Taken (accessOf s f)) (h : had (Record.DataAbort r) ≡ true) where
-    abbrev by-word : Finished
-    by-word = finished s w values
+  -- THE SAME STATE, of a load and of a store
+  pub same-state : by-word .state ≡ by-chip .state
+  same-state = go (shape .load) refl
+    where
+      go : (b : Bool) → shape .load ≡ b → by-word .state ≡ by-chip .state
+      go true l =
+          ap (λ (x : Finished). x .state) (sym word ∙ performed-load l)
+          ∙ load-state
+          ∙ ap (λ (x : DeviceFinished). x .state) (sym (accessed-load l) ∙ chip)
+      go false l =
+          ap (λ (x : Finished). x .state) (sym word ∙ performed-store l)
+          ∙ store-state
+          ∙ ap (λ (x : DeviceFinished). x .state) (sym (accessed-store l) ∙ chip)
 
-    abbrev by-chip : DeviceFinished
-    by-chip = device.finished s (Record.DataAbort r) (getD values 0 0)
-
-    -- THE SAME STATE, of a load and of a store
-    pub same-load : shape .load ≡ true → by-word .state ≡ by-chip .state
-    same-load l =
-        ap (λ (x : Finished). x .state) (sym (word d) ∙ performed-load l)
-        ∙ load-state
-        ∙ ap (λ (x : DeviceFinished). x .state) (sym (accessed-load l) ∙ chip h)
-
-    pub same-store : shape .load ≡ false → by-word .state ≡ by-chip .state
-    same-store l =
-        ap (λ (x : Finished). x .state) (sym (word d) ∙ performed-store l)
-        ∙ store-state
-        ∙ ap (λ (x : DeviceFinished). x .state) (sym (accessed-store l) ∙ chip h)
-
-    -- THE SAME VALUE for the device
-    pub same-value : shape .load ≡ false → by-chip .answer ≡ device-answer.Stored (getD (by-word .outcome .values) 0 0)
-    same-value l =
-        ap (λ (x : DeviceFinished). x .answer) (sym (chip h) ∙ accessed-store l)
-        ∙ ap device-answer.Stored (sym given-first)
-        ∙ ap (λ (x : Finished). device-answer.Stored (getD (x .outcome .values) 0 0)) (sym (performed-store l) ∙ word d)
+  -- THE SAME VALUE for the device, of a store
+  pub same-value : shape .load ≡ false → by-chip .answer ≡ device-answer.Stored (getD (by-word .outcome .values) 0 0)
+  same-value l =
+      ap (λ (x : DeviceFinished). x .answer) (sym chip ∙ accessed-store l)
+      ∙ ap device-answer.Stored (sym given-first)
+      ∙ ap (λ (x : Finished). device-answer.Stored (getD (x .outcome .values) 0 0)) (sym (performed-store l) ∙ word)

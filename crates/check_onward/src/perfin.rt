@@ -27,6 +27,6 @@ pub fn answer(row: Row) -> Reply {
     let before = rest(row, 17);
     shown(
         before,
-        a32_lent(state(before), rows::word(row, 0), values(row)),
+        a32_lent(state(before), rows::word(row, 0), values(rest(row, 1))),
     )
 }

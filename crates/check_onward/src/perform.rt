@@ -37,12 +37,12 @@ pub fn shown(before: Row, done: Finished) -> Reply {
     with_state(given, before, after)
 }
 
-// The sixteen values after the word.
+// The sixteen values that a row begins with.
 pub fn values(row: Row) -> [u32; 16] {
     let mut all = [0u32; 16];
     let mut i = 0;
     while i < 16 {
-        all[i] = word(row, i + 1);
+        all[i] = word(row, i);
         i += 1;
     }
     all
@@ -60,6 +60,6 @@ pub fn answer(row: Row) -> Reply {
     let before = rest(row, 17);
     shown(
         before,
-        a32_finish::finish(state(before), word(row, 0), values(row)),
+        a32_finish::finish(state(before), word(row, 0), values(rest(row, 1))),
     )
 }
