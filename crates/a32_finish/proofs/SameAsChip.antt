@@ -61,7 +61,7 @@ pub record Tells (s : Guest) (f : Fields) (t : ℕ) (r : DataAbort) : Type 0 whe
   pub il : r .il ≡ true
 
 -- the word is described by its fields f, and some edition has the record
-module _ (s : Guest) {w : ℕ} (f : Fields) (t : ℕ) (r : DataAbort) (values : List ℕ) (one : One f t) (tells : Tells s f t r)
+module _ (s : Guest) (w : ℕ) (f : Fields) (t : ℕ) (r : DataAbort) (values : List ℕ) (one : One f t) (tells : Tells s f t r)
     (d : describedAnswer s w ≡ described.Taken (accessOf s f)) (h : had (Record.DataAbort r) ≡ true) where
   abbrev mode : ℕ
   mode = modeOf (s .status)
