@@ -291,7 +291,8 @@ impl Call {
             }
             (b"perform" | b"perfin", [word, rest @ ..]) => {
                 let (values, state) = rest.split_at_checked(16)?;
-                let values = values.iter().map(|&value| narrow(value)).collect::<Option<Vec<_>>>()?;
+                let values =
+                    values.iter().map(|&value| narrow(value)).collect::<Option<Vec<_>>>()?;
                 Some(Call::Access {
                     lent: name == b"perfin",
                     word: narrow(*word)?,
@@ -377,7 +378,9 @@ impl Call {
             Call::Write { origin, record, .. } | Call::Carry { origin, record, .. } => {
                 words.long(*origin).extend(record.word());
             }
-            Call::Finish { record, .. } | Call::Step { record, .. } | Call::Coprocess { record, .. } => {
+            Call::Finish { record, .. }
+            | Call::Step { record, .. }
+            | Call::Coprocess { record, .. } => {
                 words.aarch32.extend(record.word());
             }
             Call::Trap { origin, edition, registers } => {
@@ -501,18 +504,14 @@ impl Call {
                     Err(refusal) => row![refusal, 0u8, 0u8, 0u8],
                 }
             }
-            Call::Access { word, values, state, .. } => {
-                match access(forms, state, *word, values) {
-                    Ok(done) => {
-                        let head = row![0u8, done.stored, done.addresses.len() as u64];
-                        let lists = [sixteen(&done.addresses), sixteen(&done.values)].concat();
-                        [head, lists, state.changes_to(&done.state)].concat()
-                    }
-                    Err(refusal) => {
-                        [row![refusal, 0u8, 0u8], sixteen(&[]), sixteen(&[])].concat()
-                    }
+            Call::Access { word, values, state, .. } => match access(forms, state, *word, values) {
+                Ok(done) => {
+                    let head = row![0u8, done.stored, done.addresses.len() as u64];
+                    let lists = [sixteen(&done.addresses), sixteen(&done.values)].concat();
+                    [head, lists, state.changes_to(&done.state)].concat()
                 }
-            }
+                Err(refusal) => [row![refusal, 0u8, 0u8], sixteen(&[]), sixteen(&[])].concat(),
+            },
         }
     }
 }

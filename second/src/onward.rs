@@ -167,12 +167,7 @@ fn number(bytes: &[u8], above: u8) -> u32 {
     u32::from_le_bytes(whole)
 }
 
-pub fn access(
-    forms: &[Form],
-    state: &State,
-    word: u32,
-    values: &[u32; 16],
-) -> Result<Access, u8> {
+pub fn access(forms: &[Form], state: &State, word: u32, values: &[u32; 16]) -> Result<Access, u8> {
     let (_, effect) = describe(forms, state, word)?;
     let form = find(forms, word).ok_or(19)?;
     let status = Status::unpack(state.status);

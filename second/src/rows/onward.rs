@@ -183,12 +183,15 @@ fn transfers() -> Vec<Transferred> {
         for class in [0x03, 0x05, 0x08] {
             let mut flags = with(&mrc(), "Rt", 31);
             flags.class = class;
-            let status = Status { nzcvq: (15 - nzcv) * 2 + nzcv % 2, it: 0x1c, ..Status::unpack(0x37) };
+            let status =
+                Status { nzcvq: (15 - nzcv) * 2 + nzcv % 2, it: 0x1c, ..Status::unpack(0x37) };
             let value = u32::from(nzcv) << 28 | 0x0fff_ffff * u32::from(nzcv % 2);
             questions.push(([value, 9], blank_state(status.pack()), flags));
         }
     }
-    for record in samples(Origin::AArch32).chain(calls(&LONG)).chain(forms.iter().flat_map(fields_too_large)) {
+    for record in
+        samples(Origin::AArch32).chain(calls(&LONG)).chain(forms.iter().flat_map(fields_too_large))
+    {
         questions.push((values, plain_state(0x1f), record));
     }
     for form in &forms {
@@ -204,7 +207,9 @@ fn transfers() -> Vec<Transferred> {
                 questions.push((values, blank_state(status), with(form, "CV", 0)));
             }
         }
-        for record in [form.clone(), with(form, "IL", 0), with(form, "COND", 15), with(form, "COND", 0)] {
+        for record in
+            [form.clone(), with(form, "IL", 0), with(form, "COND", 15), with(form, "COND", 0)]
+        {
             for status in [0x10, 0x16, 0x0100_0010, 0x0040_0010] {
                 questions.push((values, plain_state(status), record.clone()));
             }

@@ -137,8 +137,8 @@ module _ {M : Type 1} (𝓤 : URA M) (H : Heap 𝓤) (A : Atoms 𝓤) (W : Given
         land ! (from ! (stop !)) (init ! 8 {τ = I′.mir} refl (SL.lawful I.the-type I′.the-laws 𝓤 H A W .typed r _ is-r .0)) $
         rewrite ! 8 (λ (us : List Val). ‵ (fat fullShare I′.mir l₃ 0 (only us))) (SL.tells I.the-type I′.the-laws r (v ∷ []) is-r) refl $ drop ! $
         -- the same context, with the copy in `_4` and the call's struct, written out, in `_3`
-        assigns ! (of-opd ! (load ! (from ! (fld ! refl (stop !))) (look-in ! 7 (sub ! 1 refl (whole !))))) (from ! (hop ! (look ! 11 refl) (stop !))) (store-raw ! 0 {τ = G′.mir} refl (SL.lawful G.the-type G′.the-laws 𝓤 H A W .typed (r .state) _ (new-state r is-r) .0)) $
-        assigns ! (of-opd ! (load ! (from ! (fld ! refl (stop !))) (look-in ! 7 (sub ! 0 refl (whole !))))) (from ! (stop !)) (init ! 13 {τ = N′.mir} refl (EL.lawful N.the-type N′.the-laws 𝓤 H A W tt .typed (r .answer) _ (new-answer r is-r) .0)) $
+        assigns ! (of-opd ! (load ! (from ! (fld ! {τ = G′.mir} {d = 4} refl (stop !))) (look-in ! 7 {τ = G′.mir} (sub ! 1 {τ = G′.mir} {d = 4} refl (whole !))))) (from ! (hop ! (look ! 11 refl) (stop !))) (store-raw ! 0 {τ = G′.mir} refl (SL.lawful G.the-type G′.the-laws 𝓤 H A W .typed (r .state) _ (new-state r is-r) .0)) $
+        assigns ! (of-opd ! (load ! (from ! (fld ! {τ = N′.mir} {d = 0} refl (stop !))) (look-in ! 7 {τ = N′.mir} (sub ! 0 {τ = N′.mir} {d = 0} refl (whole !))))) (from ! (stop !)) (init ! 13 {τ = N′.mir} refl (EL.lawful N.the-type N′.the-laws 𝓤 H A W tt .typed (r .answer) _ (new-answer r is-r) .0)) $
         move ! (1 ∷ []) $ drop ! $ owned ! G.the-row (Is G.the-row) (SL.makes G.the-type G′.the-plain 𝓤 H A) (r .state) _ (new-state r is-r) $ move ! (1 ∷ 0 ∷ []) $ closes ! tt G.the-row (r .state) (state-val (r .state) ∷ []) b o $
         returns ! (look ! 11 refl) $ forget ! 3 refl $ forget ! 5 refl $ forget ! 7 refl $ forget ! 9 refl $ forget ! 11 refl $
         move ! (11 ∷ 12 ∷ []) $ free1 ! $ move ! (9 ∷ 10 ∷ []) $ free1 ! $ move ! (7 ∷ 8 ∷ []) $ free1 ! $ move ! (5 ∷ 6 ∷ []) $ free1 ! $ move ! (3 ∷ 4 ∷ []) $ free1 ! $ free0 ! $
