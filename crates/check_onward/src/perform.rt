@@ -26,6 +26,10 @@ fn with_answer(reply: Reply, answer: Answer) -> Reply {
     }
 }
 
+fn with_sixteen(reply: Reply, words: [u32; 16]) -> Reply {
+    with_words(reply, &words)
+}
+
 pub fn shown(before: Row, done: Finished) -> Reply {
     let outcome = done.outcome;
     let answer = outcome.answer;
@@ -33,7 +37,7 @@ pub fn shown(before: Row, done: Finished) -> Reply {
     let values = outcome.values;
     let after = done.state;
     let access = with_answer(one(a32_finish::number(answer) as u64), answer);
-    let given = with_words(with_words(access, &addresses), &values);
+    let given = with_sixteen(with_sixteen(access, addresses), values);
     with_state(given, before, after)
 }
 
