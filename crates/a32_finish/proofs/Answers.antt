@@ -54,7 +54,8 @@ pub promised : (s : Guest) (w : ℕ) (values : List ℕ) {f : Finished} → f �
 promised s w values e = record { result = e; number = ap numberIn e ∙ number-decided s w values; mask = refl; count = refl }
 
 -- A REFUSAL gives back the very state
-refused-description : (s : Guest) (d : Described) (values : List ℕ) → (numberIn (finishedBy s d values) ≡ 0 → ⊥) → finishedBy s d values .state ≡ s
+refused-description : (s : Guest) (d : Described) (values : List ℕ) → (numberIn (finishedBy s d values) ≡ 0 → ⊥)
+    → finishedBy s d values .state ≡ s
 refused-description s (described.Taken a) values n = absurd (n (performed-number s a (padded 16 (registersOf (a .fields))) values))
 refused-description s described.UnsoundStatus values n = refl
 refused-description s described.T32State values n = refl

@@ -84,7 +84,8 @@ unfolding performed loaded
 performed-kept s a numbers values = go (shapeOf (a .fields) .load)
   where
     go : (b : Bool) → Kept s (cond b (toLoad s a (shapeOf (a .fields)) numbers values) (toStore s a (shapeOf (a .fields)) numbers) .state)
-    go true = gone-kept s (landingIn s a (shapeOf (a .fields)) numbers values .regs) (landingIn s a (shapeOf (a .fields)) numbers values .next)
+    go true = gone-kept s (landingIn s a (shapeOf (a .fields)) numbers values .regs)
+        (landingIn s a (shapeOf (a .fields)) numbers values .next)
     go false = store-steps s a .kept
 
 by-description : (s : Guest) (d : Described) (values : List ℕ) → Kept s (finishedBy s d values .state)
@@ -103,21 +104,26 @@ unfolding branched
 gone-sound s regs Next.After = step.sound-after s regs true
 gone-sound s regs (Next.Branch v) = sound-with-t (stepped s regs true .status) (bitOf v 0) (s .marks) ∙ step.sound-after s regs true
 
-performed-sound : (s : Guest) (a : Access) (numbers values : List ℕ) → sound (s .marks) (performed s a numbers values .state .status) ≡ sound (s .marks) (s .status)
+performed-sound : (s : Guest) (a : Access) (numbers values : List ℕ)
+    → sound (s .marks) (performed s a numbers values .state .status) ≡ sound (s .marks) (s .status)
 unfolding performed loaded stored
 performed-sound s a numbers values = go (shapeOf (a .fields) .load)
   where
-    go : (b : Bool) → sound (s .marks) (cond b (toLoad s a (shapeOf (a .fields)) numbers values) (toStore s a (shapeOf (a .fields)) numbers) .state .status)
+    go : (b : Bool) → sound (s .marks) (cond b (toLoad s a (shapeOf (a .fields)) numbers values)
+        (toStore s a (shapeOf (a .fields)) numbers) .state .status)
         ≡ sound (s .marks) (s .status)
-    go true = gone-sound s (landingIn s a (shapeOf (a .fields)) numbers values .regs) (landingIn s a (shapeOf (a .fields)) numbers values .next)
+    go true = gone-sound s (landingIn s a (shapeOf (a .fields)) numbers values .regs)
+        (landingIn s a (shapeOf (a .fields)) numbers values .next)
     go false = step.sound-after s _ true
 
-sound-by : (s : Guest) (d : Described) (values : List ℕ) → sound (s .marks) (finishedBy s d values .state .status) ≡ sound (s .marks) (s .status)
+sound-by : (s : Guest) (d : Described) (values : List ℕ)
+    → sound (s .marks) (finishedBy s d values .state .status) ≡ sound (s .marks) (s .status)
 sound-by s (described.Taken a) values = performed-sound s a (padded 16 (registersOf (a .fields))) values
 sound-by s described.UnsoundStatus values = refl
 sound-by s described.T32State values = refl
 sound-by s described.NoForm values = refl
 
-pub sound-after : (s : Guest) (w : ℕ) (values : List ℕ) → sound (s .marks) (finished s w values .state .status) ≡ sound (s .marks) (s .status)
+pub sound-after : (s : Guest) (w : ℕ) (values : List ℕ)
+    → sound (s .marks) (finished s w values .state .status) ≡ sound (s .marks) (s .status)
 unfolding finished
 sound-after s w values = sound-by s (describedAnswer s w) values

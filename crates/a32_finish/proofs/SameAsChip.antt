@@ -1,5 +1,6 @@
--- Requests C-17 and C-18 joined: a load or store of one register that the chip describes (ISV 1) and the same instruction finished from its A32 word leave the
--- same state, and a store gives the device the same value. The chip describes no other: one register, not 15, without write-back.
+-- Requests C-17 and C-18 joined: a load or store of one register that the chip describes (ISV 1) and the same instruction finished from its
+-- A32 word leave the same state, and a store gives the device the same value. The chip describes no other: one register, not 15, without
+-- write-back.
 use mathlib.Core.Path.{_≡_, refl, sym, ap, ap₂, _∙_}
 use mathlib.Core.Bool.{Bool, true, false, not, _&&_, cond}
 use mathlib.Core.List.{List, [], _∷_}
@@ -91,7 +92,8 @@ module _ (s : Guest) (w : ℕ) (f : Fields) (t : ℕ) (r : DataAbort) (values : 
   -- where the register stands
   held : heldIn mode t ≡ Held.Register (r .srt)
   held =
-      ap₂ (λ (a b : Bool). cond (a && b) (Held.Register (numberIn mode t)) Held.Nowhere) (is-sound (s .marks) (s .status) good .mode) (le-leb t 14 (one .below))
+      ap₂ (λ (a b : Bool). cond (a && b) (Held.Register (numberIn mode t)) Held.Nowhere) (is-sound (s .marks) (s .status) good .mode)
+      (le-leb t 14 (one .below))
       ∙ ap Held.Register (sym (tells .srt))
 
   kept-back : writtenBack (s .regs) (s .pc) mode (accessOf s f) ≡ s .regs
@@ -106,7 +108,8 @@ module _ (s : Guest) (w : ℕ) (f : Fields) (t : ℕ) (r : DataAbort) (values : 
 
   loaded-one : (v : ℕ) → loadTo mode start t v ≡ with-value v
   loaded-one v =
-      ap (λ (b : Bool). cond b (record { regs = s .regs; next = Next.Branch v }) (record { regs = withHeld (s .regs) (heldIn mode t) v; next = Next.After })) not-15
+      ap (λ (b : Bool). cond b (record { regs = s .regs; next = Next.Branch v })
+      (record { regs = withHeld (s .regs) (heldIn mode t) v; next = Next.After })) not-15
       ∙ ap (λ (h : Held). landing (withHeld (s .regs) h v)) held
     where
       landing : List ℕ → Landing

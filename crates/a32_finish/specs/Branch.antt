@@ -1,5 +1,6 @@
--- A load of register 15 (the manual's LoadWritePC, which is BXWritePC): bit 0 chooses T32 state, else A32 state, and PC is the address without the bits that a
--- PC in that state hasn't. Of an address with bit 1 set in A32 state the manual allows that, and a PC that isn't aligned.
+-- A load of register 15 (the manual's LoadWritePC, which is BXWritePC): bit 0 chooses T32 state, else A32 state, and PC is the address
+-- without the bits that a PC in that state hasn't. Of an address with bit 1 set in A32 state the manual allows that, and a PC that isn't
+-- aligned.
 use Prim.Native.Nat.{ℕ, _+_, _*_, _^_}
 use mathlib.Core.Bool.{Bool, cond}
 use Rattle.bits.specs.Field.{bitOf, digit}

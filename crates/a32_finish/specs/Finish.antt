@@ -1,5 +1,5 @@
--- A described load or store that is finished: the answer, the addresses and values for the device, and the whole state after it. What is finished is what
--- describing the word in the same state answers (crate a32), so that its tests are those.
+-- A described load or store that is finished: the answer, the addresses and values for the device, and the whole state after it. What is
+-- finished is what describing the word in the same state answers (crate a32), so that its tests are those.
 use Prim.Native.Nat.{ℕ, min}
 use mathlib.Core.Bool.{not, cond, true}
 use mathlib.Core.List.{List, [], _∷_}
@@ -45,7 +45,8 @@ goneOn s regs (Next.Branch value) = branched (stepped s regs true) value
 
 abbrev pub landingIn : Guest → Access → Shape → List ℕ → List ℕ → Landing
 landingIn s a shape numbers values =
-    landed (writtenBack (s .regs) (s .pc) (modeOf (s .status)) a) (modeOf (s .status)) (bigEndian (s .status)) shape numbers values (a .count)
+    landed (writtenBack (s .regs) (s .pc) (modeOf (s .status)) a) (modeOf (s .status)) (bigEndian (s .status)) shape numbers values
+    (a .count)
 
 unfoldable pub loaded : Guest → Access → Shape → List ℕ → List ℕ → Guest
 loaded s a shape numbers values = goneOn s (landingIn s a shape numbers values .regs) (landingIn s a shape numbers values .next)

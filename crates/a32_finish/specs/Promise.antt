@@ -1,5 +1,5 @@
--- What the two calls that finish a described load or store promise: the answer with what goes to the device and the whole state after it, and the answer's
--- number, mask and count.
+-- What the two calls that finish a described load or store promise: the answer with what goes to the device and the whole state after it,
+-- and the answer's number, mask and count.
 use mathlib.Core.Path.{_≡_}
 use mathlib.Core.List.{List}
 use Prim.Native.Nat.{ℕ}

@@ -17,8 +17,8 @@ pub enum Answer {
     NoForm,
 }
 
-// The answer, with the address of each transfer and what a store gives the device there, in transfer order: as many as the access counts, and 0 after
-// them. A load gives nothing.
+// The answer, with the address of each transfer and what a store gives the device there, in transfer order: as many as the access counts,
+// and 0 after them. A load gives nothing.
 pub struct Outcome {
     pub answer: Answer,
     pub addresses: [u32; 16],

@@ -45,13 +45,27 @@ fn gone_on(state: Guest, regs: [u32; 31], next: Next) -> Guest
 }
 
 // The base is written back, and then the registers are loaded.
-fn loaded(state: Guest, access: Access, shape: Shape, numbers: [u32; 16], values: [u32; 16]) -> Guest
+fn loaded(
+    state: Guest,
+    access: Access,
+    shape: Shape,
+    numbers: [u32; 16],
+    values: [u32; 16],
+) -> Guest
     ensures { λ r. ⌜ r ≡ loaded state access shape numbers values ⌝ }
 {
     let regs = state.regs;
     let mode = mode_of(state.status);
     let base = written_back(regs, state.pc, mode, access);
-    let to = landed(base, mode, big_endian(state.status), shape, numbers, values, access.count);
+    let to = landed(
+        base,
+        mode,
+        big_endian(state.status),
+        shape,
+        numbers,
+        values,
+        access.count,
+    );
     let after = to.regs;
     let next = to.next;
     gone_on(state, after, next)
@@ -118,8 +132,8 @@ fn refusing(answer: Answer, state: Guest) -> Finished
     }
 }
 
-// The answer, with the state after it: a refusal's is the state that came. `values` are what the device gave to a load, in transfer order; a store doesn't
-// look at them.
+// The answer, with the state after it: a refusal's is the state that came. `values` are what the device gave to a load, in transfer order;
+// a store doesn't look at them.
 pub fn finish(state: Guest, word: u32, values: [u32; 16]) -> Finished
     ensures { λ r. ⌜ AccessPromise state word values r ⌝ }
 {

@@ -14,7 +14,8 @@ unfolding firsts
 length-firsts rule zero = refl
 length-firsts rule (suc n) = length-one-more (firsts rule n) (rule n) ∙ ap (λ (k : ℕ). k + 1) (length-firsts rule n) ∙ add-one n
 
-pub one-more : (rule : ℕ → ℕ) (k n : ℕ) {all : List ℕ} {v : ℕ} → all ≡ padded k (firsts rule n) → v ≡ rule n → set all n v ≡ padded k (firsts rule (n + 1))
+pub one-more : (rule : ℕ → ℕ) (k n : ℕ) {all : List ℕ} {v : ℕ} → all ≡ padded k (firsts rule n) → v ≡ rule n
+    → set all n v ≡ padded k (firsts rule (n + 1))
 unfolding firsts
 one-more rule k n held same =
     ap₂ (λ (l : List ℕ) (x : ℕ). set l n x) held same

@@ -15,7 +15,7 @@ firsts rule (suc n) = firsts rule n ++ (rule n ∷ [])
 abbrev pub addressAt : ℕ → ℕ → ℕ
 addressAt first i = (first + 4 * i) % 2 ^ 32
 
--- what transfer i gives: its register's low bits, reversed where the guest's data is big-endian (02, C-17). Register 15 reads PC plus 8, which is the manual's
--- PCStoreValue.
+-- what transfer i gives: its register's low bits, reversed where the guest's data is big-endian (02, C-17). Register 15 reads PC plus 8,
+-- which is the manual's PCStoreValue.
 abbrev pub givenAt : List ℕ → ℕ → ℕ → Bool → ℕ → List ℕ → ℕ → ℕ
 givenAt regs pc mode big sas numbers i = transferred sas big (valueOf regs pc mode (getD numbers i 0))

@@ -1,5 +1,5 @@
--- What each instruction moves: whether memory is read, how wide a transfer is, and whether a load is extended by its sign. LDRD, STRD and lists move word
--- by word.
+-- What each instruction moves: whether memory is read, how wide a transfer is, and whether a load is extended by its sign. LDRD, STRD and
+-- lists move word by word.
 use Prim.Native.Nat.{ℕ}
 use mathlib.Core.Bool.{Bool, true, false}
 use Rattle.a32_fields.specs.declared.kinds.Fields.{Fields}

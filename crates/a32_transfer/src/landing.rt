@@ -54,7 +54,8 @@ pub fn written_back(regs: [u32; 31], pc: u32, mode: u32, access: Access) -> [u32
     if back(f) {
         let change = access.change;
         let base = base_register(f);
-        with_held(regs, mode, base, sum(value_of(regs, pc, mode, base), change))
+        let after = sum(value_of(regs, pc, mode, base), change);
+        with_held(regs, mode, base, after)
     } else {
         regs
     }

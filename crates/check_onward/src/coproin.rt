@@ -4,7 +4,7 @@ use super::copro::asked;
 use super::copro::shown;
 use coprocessor::Finished;
 use exception::Guest;
-use monitor::coprocessor_in_place;
+use onward::coprocessor_in_place;
 use record::Record;
 use record_rows::Given;
 use rows::Reply;

@@ -5,7 +5,7 @@ use super::perform::shown;
 use super::perform::values;
 use a32_finish::Finished;
 use exception::Guest;
-use monitor::a32_finish_in_place;
+use onward::a32_finish_in_place;
 use rows::Reply;
 use rows::Row;
 use rows::rest;

@@ -3,7 +3,7 @@ ghost use Rattle.step.specs.Promise.{StepPromise};
 use super::steps::asked;
 use super::steps::shown;
 use exception::Guest;
-use monitor::step_over_in_place;
+use onward::step_over_in_place;
 use record::Record;
 use record_rows::Given;
 use rows::Reply;

@@ -3,9 +3,6 @@ ghost use Rattle.guest.specs.Promise.{Promise};
 ghost use Rattle.device.specs.Promise.{FinishPromise};
 ghost use Rattle.delivery.specs.Promise.{Delivering};
 ghost use Rattle.resume.specs.Promise.{Returning};
-ghost use Rattle.step.specs.Promise.{StepPromise};
-ghost use Rattle.coprocessor.specs.Promise.{TransferPromise};
-ghost use Rattle.a32_finish.specs.Promise.{AccessPromise};
 use delivery::Outcome;
 use delivery::deliver;
 use device::finish;
@@ -16,7 +13,11 @@ use pending::Queue;
 use record::Record;
 use resume::resume;
 use signed::Signed;
-use step::step_over;
+
+// Those that go on after a trap, in the same way.
+pub use onward::a32_finish_in_place;
+pub use onward::coprocessor_in_place;
+pub use onward::step_over_in_place;
 
 // Injects into the state where it lies: answer and state are those of the call by value, on a refusal too.
 pub fn inject_in_place(state: &mut Guest, what: Injection) -> guest::Answer
@@ -52,31 +53,4 @@ pub fn resume_in_place(state: &mut Guest, correction: Signed) -> resume::Answer
     let back = resume(*state, correction);
     *state = back.state;
     back.answer
-}
-
-// Steps over an instruction of the state where it lies, in the same way.
-pub fn step_over_in_place(state: &mut Guest, what: Record) -> step::Answer
-    ensures { λ r. ⌜ StepPromise (now (state .entry)) what (record { answer = r; state = now (state .exit) }) ⌝ }
-{
-    let over = step_over(*state, what);
-    *state = over.state;
-    over.answer
-}
-
-// Finishes a coprocessor read or write of the state where it lies, in the same way.
-pub fn coprocessor_in_place(state: &mut Guest, what: Record, first: u32, second: u32) -> coprocessor::Answer
-    ensures { λ r. ⌜ TransferPromise (now (state .entry)) what first second (record { answer = r; state = now (state .exit) }) ⌝ }
-{
-    let ended = coprocessor::finish(*state, what, first, second);
-    *state = ended.state;
-    ended.answer
-}
-
-// Finishes a described load or store of the state where it lies, in the same way: what goes to the device comes back beside the answer.
-pub fn a32_finish_in_place(state: &mut Guest, word: u32, values: [u32; 16]) -> a32_finish::Outcome
-    ensures { λ r. ⌜ AccessPromise (now (state .entry)) word values (record { outcome = r; state = now (state .exit) }) ⌝ }
-{
-    let access = a32_finish::finish(*state, word, values);
-    *state = access.state;
-    access.outcome
 }

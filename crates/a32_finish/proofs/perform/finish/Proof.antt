@@ -61,21 +61,24 @@ returns-2 c =
     let read = c .before .before .before .before in
     let a = read .before .args in
     promised (a .state) (a .word) (a .values)
-    (c .refusing .ensures ∙ settled (a .state) (a .word) (a .values) (sym (read .describe .ensures .answer) ∙ c .before .enum-told .given .1))
+    (c .refusing .ensures ∙ settled (a .state) (a .word) (a .values)
+    (sym (read .describe .ensures .answer) ∙ c .before .enum-told .given .1))
 
 returns-3 : tie.Need-returns-3
 returns-3 c =
     let read = c .before .before .before .before in
     let a = read .before .args in
     promised (a .state) (a .word) (a .values)
-    (c .refusing2 .ensures ∙ settled (a .state) (a .word) (a .values) (sym (read .describe .ensures .answer) ∙ c .before .enum-told2 .given .1))
+    (c .refusing2 .ensures ∙ settled (a .state) (a .word) (a .values)
+    (sym (read .describe .ensures .answer) ∙ c .before .enum-told2 .given .1))
 
 returns-4 : tie.Need-returns-4
 returns-4 c =
     let read = c .before .before .before .before in
     let a = read .before .args in
     promised (a .state) (a .word) (a .values)
-    (c .refusing3 .ensures ∙ settled (a .state) (a .word) (a .values) (sym (read .describe .ensures .answer) ∙ c .before .enum-told3 .given .1))
+    (c .refusing3 .ensures ∙ settled (a .state) (a .word) (a .values)
+    (sym (read .describe .ensures .answer) ∙ c .before .enum-told3 .given .1))
 
 pub finish-spec : {M : Type 1} → statement M
 finish-spec =

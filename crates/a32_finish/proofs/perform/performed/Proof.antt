@@ -34,11 +34,13 @@ module _ (s : Guest) (a : Access) (numbers values : List ℕ) where
   loads shape p e = ap₂ (λ (l : List ℕ) (g : Guest). made (Loaded a) l (padded 16 []) g) p e
 
   gives : (shape : Shape) {mode : ℕ} {big : Bool} {out : List ℕ} → mode ≡ modeOf (s .status) → big ≡ bigEndian (s .status)
-      → out ≡ padded 16 (firsts (givenAt (s .regs) (s .pc) mode big (shape .sas) numbers) (min (a .count) 16)) → out ≡ givenIn s a shape numbers
+      → out ≡ padded 16 (firsts (givenAt (s .regs) (s .pc) mode big (shape .sas) numbers) (min (a .count) 16))
+      → out ≡ givenIn s a shape numbers
   gives shape m g e =
       e ∙ ap₂ (λ (k : ℕ) (b : Bool). padded 16 (firsts (givenAt (s .regs) (s .pc) k b (shape .sas) numbers) (min (a .count) 16))) m g
 
-  stores : (shape : Shape) {places out : List ℕ} {after : Guest} → places ≡ addressesOf a → out ≡ givenIn s a shape numbers → after ≡ stored s a
+  stores : (shape : Shape) {places out : List ℕ} {after : Guest} → places ≡ addressesOf a → out ≡ givenIn s a shape numbers
+      → after ≡ stored s a
       → made (Stored a) places out after ≡ toStore s a shape numbers
   stores shape {out = out} p o e =
       ap₂ (λ (l : List ℕ) (g : Guest). made (Stored a) l out g) p e
@@ -69,7 +71,8 @@ returns : tie.Need-returns
 returns c =
     let placed = c .before .before in
     let a = placed .before .before .args in
-    loads (a .state) (a .access) (a .numbers) (a .values) (placed .before .shape-of .result) (placed .addresses .ensures) (c .loaded .ensures)
+    loads (a .state) (a .access) (a .numbers) (a .values) (placed .before .shape-of .result) (placed .addresses .ensures)
+    (c .loaded .ensures)
     ∙ by-shape (a .state) (a .access) (a .numbers) (a .values) (placed .before .shape-of .ensures) (c .before .if1 .taken)
 
 returns-2 : tie.Need-returns-2
@@ -78,7 +81,8 @@ returns-2 c =
     let placed = tested .before in
     let a = placed .before .before .args in
     stores (a .state) (a .access) (a .numbers) (a .values) (placed .before .shape-of .result) (placed .addresses .ensures)
-    (gives (a .state) (a .access) (a .numbers) (a .values) (placed .before .shape-of .result) (c .before .before .before .mode-of .ensures) (c .before .before .big-endian .ensures) (c .before .given .ensures))
+    (gives (a .state) (a .access) (a .numbers) (a .values) (placed .before .shape-of .result) (c .before .before .before .mode-of .ensures)
+    (c .before .before .big-endian .ensures) (c .before .given .ensures))
     (c .stored .ensures)
     ∙ by-shape (a .state) (a .access) (a .numbers) (a .values) (placed .before .shape-of .ensures) (tested .if1 .left)
 

@@ -1,5 +1,5 @@
--- `a32_transfer::giving::addresses` meets its contract. The invariant: the first i addresses stand in their places, and `address` is the next.
--- Assumes nothing.
+-- `a32_transfer::giving::addresses` meets its contract. The invariant: the first i addresses stand in their places, and `address` is the
+-- next. Assumes nothing.
 use borrow.Author.Needs.{needs}
 use mathlib.Core.Path.{_≡_, refl, _∙_, ap}
 use Prim.Native.Nat.{ℕ, _+_, _-_, _*_, _%_, _^_, _≤_, min}

@@ -52,10 +52,11 @@ loop-less c = omega arith
 loop-again : tie.Need-loop-again Inv-loop μ-loop
 loop-again c =
     let at = c .before .before .before in
-    let a = at .before .before .args in
-    (omega arith,
-    one-more (givenAt (a .regs) (a .pc) (a .mode) (a .big) (a .sas) (a .t6)) 16 (at .loop .i) (at .loop .inv .1)
-    (c .transferred .ensures ∙ ap (transferred (a .sas) (a .big)) (c .before .value-of .ensures)))
+    let a = at .before .before .args in (
+      omega arith,
+      one-more (givenAt (a .regs) (a .pc) (a .mode) (a .big) (a .sas) (a .t6)) 16 (at .loop .i) (at .loop .inv .1)
+          (c .transferred .ensures ∙ ap (transferred (a .sas) (a .big)) (c .before .value-of .ensures)),
+    )
 
 returns : tie.Need-returns Inv-loop μ-loop
 returns c =

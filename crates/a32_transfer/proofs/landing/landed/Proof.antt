@@ -16,7 +16,8 @@ use Rattle.a32_transfer.proofs.landing.landed.Tie as tie
 
 -- one register more
 next : (regs : List ℕ) (mode : ℕ) (big : Bool) (shape : Shape) (numbers values : List ℕ) (i : ℕ) {to after : Landing} {v : ℕ}
-    → to ≡ loadedFirst regs mode big shape numbers values i → v ≡ arrived shape big (getD values i 0) → after ≡ loadTo mode to (getD numbers i 0) v
+    → to ≡ loadedFirst regs mode big shape numbers values i → v ≡ arrived shape big (getD values i 0)
+    → after ≡ loadTo mode to (getD numbers i 0) v
     → after ≡ loadedFirst regs mode big shape numbers values (i + 1)
 unfolding loadedFirst
 next regs mode big shape numbers values i p q e =
@@ -64,8 +65,11 @@ loop-less c = omega arith
 loop-again : tie.Need-loop-again Inv-loop μ-loop
 loop-again c =
     let at = c .before .before .before in
-    let a = at .before .before .args in
-    (omega arith, next (a .regs) (a .mode) (a .big) (a .shape) (a .t5) (a .t6) (at .loop .i) (at .loop .inv .1) (c .before .arrived .ensures) (c .load-to .ensures))
+    let a = at .before .before .args in (
+      omega arith,
+      next (a .regs) (a .mode) (a .big) (a .shape) (a .t5) (a .t6) (at .loop .i) (at .loop .inv .1)
+          (c .before .arrived .ensures) (c .load-to .ensures),
+    )
 
 returns : tie.Need-returns Inv-loop μ-loop
 returns c =

@@ -15,16 +15,19 @@ use Rattle.a32_transfer.proofs.landing.load_to.Tie as tie
 
 module _ (to : Landing) (mode n value : ℕ) where
   by : {b : Bool} → eqb n 15 ≡ b
-      → cond b (record { regs = to .regs; next = Branch value }) (record { regs = withHeld (to .regs) (heldIn mode n) value; next = to .next })
+      → cond b (record { regs = to .regs; next = Branch value })
+      (record { regs = withHeld (to .regs) (heldIn mode n) value; next = to .next })
       ≡ loadTo mode to n value
   by e =
-      ap (λ (b : Bool). cond b (record { regs = to .regs; next = Branch value }) (record { regs = withHeld (to .regs) (heldIn mode n) value; next = to .next }))
+      ap (λ (b : Bool). cond b (record { regs = to .regs; next = Branch value })
+      (record { regs = withHeld (to .regs) (heldIn mode n) value; next = to .next }))
       (sym e)
 
   abbrev holding : List ℕ → Landing
   holding regs = record { regs = regs; next = to .next }
 
-  put : {regs : List ℕ} → regs ≡ withHeld (to .regs) (heldIn mode n) value → holding regs ≡ holding (withHeld (to .regs) (heldIn mode n) value)
+  put : {regs : List ℕ} → regs ≡ withHeld (to .regs) (heldIn mode n) value
+      → holding regs ≡ holding (withHeld (to .regs) (heldIn mode n) value)
   put e = ap holding e
 
 with-held-requires : tie.Need-with-held-requires
@@ -38,7 +41,8 @@ returns c =
 returns-2 : tie.Need-returns-2
 returns-2 c =
     let a = c .before .before .before .args in
-    put (a .to) (a .mode) (a .number) (a .value) (c .with-held .ensures) ∙ by (a .to) (a .mode) (a .number) (a .value) (ne-eqb _ _ (c .before .if1 .left))
+    put (a .to) (a .mode) (a .number) (a .value) (c .with-held .ensures)
+    ∙ by (a .to) (a .mode) (a .number) (a .value) (ne-eqb _ _ (c .before .if1 .left))
 
 pub load-to-spec : {M : Type 1} → statement M
 load-to-spec = tie.close (tie.spec with-held-requires returns returns-2)

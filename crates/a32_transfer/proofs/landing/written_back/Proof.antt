@@ -17,7 +17,8 @@ module _ (regs : List ℕ) (pc mode : ℕ) (a : Access) where
   abbrev changed : ℕ → List ℕ
   changed base = withHeld regs (heldIn mode base) (sumOf (valueOf regs pc mode base) (signed (a .change)))
 
-  by : {back b : Bool} → back ≡ backOf (a .fields) → back ≡ b → cond b (changed (baseRegister (a .fields))) regs ≡ writtenBack regs pc mode a
+  by : {back b : Bool} → back ≡ backOf (a .fields) → back ≡ b
+      → cond b (changed (baseRegister (a .fields))) regs ≡ writtenBack regs pc mode a
   by p e = ap (λ (b : Bool). cond b (changed (baseRegister (a .fields))) regs) (sym e ∙ p)
 
   put : {base value new : ℕ} → base ≡ baseRegister (a .fields) → value ≡ valueOf regs pc mode base → new ≡ sumOf value (signed (a .change))
@@ -45,7 +46,8 @@ returns c =
     let past = c .before .before .before .before in
     let a = past .before .before .args in
     c .with-held .ensures
-    ∙ put (a .regs) (a .pc) (a .mode) (a .access) (c .before .before .before .base-register .ensures) (c .before .before .value-of .ensures) (c .before .sum .ensures)
+    ∙ put (a .regs) (a .pc) (a .mode) (a .access) (c .before .before .before .base-register .ensures)
+    (c .before .before .value-of .ensures) (c .before .sum .ensures)
     ∙ by (a .regs) (a .pc) (a .mode) (a .access) (past .before .back .ensures) (past .if1 .taken)
 
 returns-2 : tie.Need-returns-2
