@@ -184,7 +184,7 @@ fn transfers() -> Vec<Transferred> {
             let mut flags = with(&mrc(), "Rt", 31);
             flags.class = class;
             let status =
-                Status { nzcvq: (15 - nzcv) * 2 + nzcv % 2, it: 0x1c, ..Status::unpack(0x37) };
+                Status { nzcvq: (15 - nzcv) * 2 + nzcv / 2 % 2, it: 0x1c, ..Status::unpack(0x37) };
             let value = u32::from(nzcv) << 28 | 0x0fff_ffff * u32::from(nzcv % 2);
             questions.push(([value, 9], blank_state(status.pack()), flags));
         }
