@@ -23,8 +23,11 @@ impl Flags {
     }
 }
 
-/// The conditions in the order of their numbers, each with its name.
-const CONDITIONS: [(&str, fn(&Flags) -> bool); 16] = [
+/// A condition's name and its test.
+type Condition = (&'static str, fn(&Flags) -> bool);
+
+/// The conditions in the order of their numbers.
+const CONDITIONS: [Condition; 16] = [
     ("equal", |f| f.z),
     ("not equal", |f| !f.z),
     ("carry set", |f| f.c),

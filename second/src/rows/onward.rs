@@ -185,7 +185,7 @@ fn transfers() -> Vec<Transferred> {
             flags.class = class;
             let status =
                 Status { nzcvq: (15 - nzcv) * 2 + nzcv / 2 % 2, it: 0x1c, ..Status::unpack(0x37) };
-            let value = u32::from(nzcv) << 28 | 0x0fff_ffff * u32::from(nzcv % 2);
+            let value = (u32::from(nzcv) << 28) + 0x0fff_ffff * u32::from(nzcv % 2);
             questions.push(([value, 9], blank_state(status.pack()), flags));
         }
     }
