@@ -51,10 +51,43 @@ fn fields_words(f: Fields) -> [u32; 10]
 {
     let form = form_number(f);
     match f {
-        Fields::Immediate(r) => [form, r.cond, r.p as u32, r.u as u32, r.w as u32, r.rn, r.rt, r.imm, 0, 0],
-        Fields::Register(r) => [form, r.cond, r.p as u32, r.u as u32, r.w as u32, r.rn, r.rt, 0, r.rm, 0],
+        Fields::Immediate(r) => [
+            form,
+            r.cond,
+            r.p as u32,
+            r.u as u32,
+            r.w as u32,
+            r.rn,
+            r.rt,
+            r.imm,
+            0,
+            0,
+        ],
+        Fields::Register(r) => [
+            form,
+            r.cond,
+            r.p as u32,
+            r.u as u32,
+            r.w as u32,
+            r.rn,
+            r.rt,
+            0,
+            r.rm,
+            0,
+        ],
         Fields::Literal(r) => [form, r.cond, 0, r.u as u32, 0, 0, r.rt, r.imm, 0, 0],
-        Fields::Multiple(r) => [form, r.cond, r.p as u32, r.u as u32, r.w as u32, r.rn, 0, 0, 0, r.list],
+        Fields::Multiple(r) => [
+            form,
+            r.cond,
+            r.p as u32,
+            r.u as u32,
+            r.w as u32,
+            r.rn,
+            0,
+            0,
+            0,
+            r.list,
+        ],
     }
 }
 
@@ -67,7 +100,21 @@ pub fn access_words(access: Access) -> [u32; 16]
     let shape = shape_of(f);
     let w = fields_words(f);
     [
-        w[0], w[1], w[2], w[3], w[4], w[5], w[6], w[7], w[8], w[9], shape.load as u32, shape.sas, shape.sse as u32, access.count,
-        access.address, sum(0, change),
+        w[0],
+        w[1],
+        w[2],
+        w[3],
+        w[4],
+        w[5],
+        w[6],
+        w[7],
+        w[8],
+        w[9],
+        shape.load as u32,
+        shape.sas,
+        shape.sse as u32,
+        access.count,
+        access.address,
+        sum(0, change),
     ]
 }

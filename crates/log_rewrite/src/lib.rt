@@ -9,7 +9,6 @@ mod entries;
 mod labelled;
 
 pub use labelled::write;
-
 use log::Read;
 use log_writer::Written;
 

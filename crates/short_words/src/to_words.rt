@@ -16,37 +16,139 @@ use short_record::Simd;
 fn mcr_words(x: Mcr) -> [u32; 16]
     ensures { λ w. ⌜ w ≡ mcrWords x ⌝ }
 {
-    [2, x.class, x.il as u32, x.cv as u32, x.cond, x.opc2, x.opc1, x.crn, x.rt, x.crm, x.direction as u32, 0, 0, 0, 0, 0]
+    [
+        2,
+        x.class,
+        x.il as u32,
+        x.cv as u32,
+        x.cond,
+        x.opc2,
+        x.opc1,
+        x.crn,
+        x.rt,
+        x.crm,
+        x.direction as u32,
+        0,
+        0,
+        0,
+        0,
+        0,
+    ]
 }
 
 fn mcrr_words(x: Mcrr) -> [u32; 16]
     ensures { λ w. ⌜ w ≡ mcrrWords x ⌝ }
 {
-    [3, x.class, x.il as u32, x.cv as u32, x.cond, x.opc1, x.rt2, x.rt, x.crm, x.direction as u32, 0, 0, 0, 0, 0, 0]
+    [
+        3,
+        x.class,
+        x.il as u32,
+        x.cv as u32,
+        x.cond,
+        x.opc1,
+        x.rt2,
+        x.rt,
+        x.crm,
+        x.direction as u32,
+        0,
+        0,
+        0,
+        0,
+        0,
+        0,
+    ]
 }
 
 fn ldc_words(x: Ldc) -> [u32; 16]
     ensures { λ w. ⌜ w ≡ ldcWords x ⌝ }
 {
-    [4, x.il as u32, x.cv as u32, x.cond, x.imm8, x.rn, x.offset as u32, x.am, x.direction as u32, 0, 0, 0, 0, 0, 0, 0]
+    [
+        4,
+        x.il as u32,
+        x.cv as u32,
+        x.cond,
+        x.imm8,
+        x.rn,
+        x.offset as u32,
+        x.am,
+        x.direction as u32,
+        0,
+        0,
+        0,
+        0,
+        0,
+        0,
+        0,
+    ]
 }
 
 fn simd_words(x: Simd) -> [u32; 16]
     ensures { λ w. ⌜ w ≡ simdWords x ⌝ }
 {
-    [5, x.il as u32, x.cv as u32, x.cond, x.ta as u32, x.coproc, 0, 0, 0, 0, 0, 0, 0, 0, 0, 0]
+    [
+        5,
+        x.il as u32,
+        x.cv as u32,
+        x.cond,
+        x.ta as u32,
+        x.coproc,
+        0,
+        0,
+        0,
+        0,
+        0,
+        0,
+        0,
+        0,
+        0,
+        0,
+    ]
 }
 
 fn instruction_abort_words(x: InstructionAbort) -> [u32; 16]
     ensures { λ w. ⌜ w ≡ instructionAbortWords x ⌝ }
 {
-    [8, x.il as u32, x.fnv as u32, x.ea as u32, x.s1ptw as u32, x.code, 0, 0, 0, 0, 0, 0, 0, 0, 0, 0]
+    [
+        8,
+        x.il as u32,
+        x.fnv as u32,
+        x.ea as u32,
+        x.s1ptw as u32,
+        x.code,
+        0,
+        0,
+        0,
+        0,
+        0,
+        0,
+        0,
+        0,
+        0,
+        0,
+    ]
 }
 
 fn data_abort_words(x: DataAbort) -> [u32; 16]
     ensures { λ w. ⌜ w ≡ dataAbortWords x ⌝ }
 {
-    [9, x.il as u32, x.isv as u32, x.sas, x.sse as u32, x.srt, x.ar as u32, x.aet, x.ea as u32, x.cm as u32, x.s1ptw as u32, x.wnr as u32, x.code, 0, 0, 0]
+    [
+        9,
+        x.il as u32,
+        x.isv as u32,
+        x.sas,
+        x.sse as u32,
+        x.srt,
+        x.ar as u32,
+        x.aet,
+        x.ea as u32,
+        x.cm as u32,
+        x.s1ptw as u32,
+        x.wnr as u32,
+        x.code,
+        0,
+        0,
+        0,
+    ]
 }
 
 pub fn words_of(r: Record) -> [u32; 16]
