@@ -6,7 +6,7 @@ use Prim.Native.Nat.{ℕ, zero, suc, _+_, _-_, _%_, _^_, _<_}
 use native.Mathlib.Omega.{arith}
 use lib.Dec.{ltb}
 use lib.IntN.{ℤ, pos, negsuc, negℤ}
-use borrow.Author.Tests.{ltb-true, ltb-false}
+use borrow.Author.Tests.{ltb-true, ltb-false, lt-ltb}
 use Rattle.signed.specs.declared.Signed.{Signed}
 use Rattle.signed.specs.Signed.{signed, modulo, sumOf, differenceOf}
 use Rattle.signed.proofs.Sums.{sum-below, sum-back, less}
@@ -20,10 +20,10 @@ use Rattle.guest_calls.specs.Calls.{asWord}
 word-sum : (r : ℕ) (c : ℤ) → r < 2 ^ 32 → sumOf r c ≡ (r + sumOf 0 c) % 2 ^ 32
 unfolding sumOf
 word-sum r (pos n) h = omega arith
-word-sum r (negsuc n) h = go (ltb r (suc n)) refl
+word-sum r (negsuc n) h = rw (lt-ltb 0 (suc n) (omega arith)) (go (ltb r (suc n)) refl)
   where
     go : (b : Bool) → ltb r (suc n) ≡ b
-        → modulo (cond b (negsuc (suc n - suc r)) (pos (r - suc n))) ≡ (r + (2 ^ 32 - 1 - n % 2 ^ 32)) % 2 ^ 32
+        → modulo (cond b (negsuc (suc n - suc r)) (pos (r - suc n))) ≡ (r + (2 ^ 32 - 1 - (suc n - 1) % 2 ^ 32)) % 2 ^ 32
     go true t = let l = ltb-true r (suc n) t in omega arith
     go false t = let l = ltb-false r (suc n) t in omega arith
 

@@ -126,8 +126,7 @@ pub extern "C" fn knucklepin_deliver(state: &mut [u32; 48], pending: &mut [u32; 
     let answer = outcome.answer;
     let queue = outcome.queue;
     *state = words_of(words, after);
-    pending[0] = number_of(queue);
-    pending[1] = delivered_number(answer);
+    *pending = [number_of(queue), delivered_number(answer)];
     delivery::number(answer)
 }
 
