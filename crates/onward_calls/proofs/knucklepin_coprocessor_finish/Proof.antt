@@ -41,9 +41,9 @@ returns c =
     let a = call .before .before .before .before .before .args in
     let w = now (a .state) in
     let same =
-        call .finish .ensures .result
-        ∙ ap₂ (λ (s : Guest) (r : Record). finished s r (a .first) (a .second)) (call .before .before .before .state-of .ensures)
-        (call .before .record-of .ensures) in
+    call .finish .ensures .result
+    ∙ ap₂ (λ (s : Guest) (r : Record). finished s r (a .first) (a .second)) (call .before .before .before .state-of .ensures)
+    (call .before .record-of .ensures) in
     let first = c .before .before .before .first-in .ensures ∙ ap (λ (x : Finished). firstIn (x .answer)) same in
     let second = c .before .before .second-in .ensures ∙ ap (λ (x : Finished). secondIn (x .answer)) same in
     record {

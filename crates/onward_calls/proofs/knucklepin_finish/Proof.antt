@@ -37,9 +37,9 @@ returns c =
     let a = call .before .before .before .before .before .args in
     let w = now (a .state) in
     let same =
-        call .finish .ensures .result
-        ∙ ap₂ (λ (s : Guest) (r : Record). finished s r (a .value)) (call .before .before .before .state-of .ensures)
-        (call .before .record-of .ensures) in
+    call .finish .ensures .result
+    ∙ ap₂ (λ (s : Guest) (r : Record). finished s r (a .value)) (call .before .before .before .state-of .ensures)
+    (call .before .record-of .ensures) in
     record {
       lent = record {
         answer = c .number .ensures ∙ ap (λ (x : Finished). accessNumber (x .answer)) same;

@@ -29,8 +29,8 @@ returns c =
     let call = c .before .before .before in
     let w = now (call .before .before .before .before .before .args .state) in
     let same =
-        call .step-over .ensures .result
-        ∙ ap₂ steppedOver (call .before .before .before .state-of .ensures) (call .before .record-of .ensures) in
+    call .step-over .ensures .result
+    ∙ ap₂ steppedOver (call .before .before .before .state-of .ensures) (call .before .record-of .ensures) in
     record {
       answer = c .number .ensures ∙ ap (λ (x : SteppedOver). stepNumber (x .answer)) same;
       words = c .before .words-of .ensures ∙ ap (λ (x : SteppedOver). wordsOf w (x .state)) same;

@@ -24,8 +24,13 @@ mul-result c = omega (arith, c .kind-number2 .ensures, kind-small (c .before .ne
 
 add-result : tie.Need-add-result
 add-result c =
-    omega (arith, c .kind-number2 .ensures, c .before .before .kind-number .ensures, kind-small (c .before .before .before .args .a),
-    kind-small (c .before .neighbour .result))
+    omega (
+      arith,
+      c .kind-number2 .ensures,
+      c .before .before .kind-number .ensures,
+      kind-small (c .before .before .before .args .a),
+      kind-small (c .before .neighbour .result),
+    )
 
 neighbour-requires-2 : tie.Need-neighbour-requires-2
 neighbour-requires-2 c κs = search needs
@@ -39,9 +44,15 @@ mul-result-2 c = omega (arith, c .kind-number3 .ensures, kind-small (c .before .
 add-result-2 : tie.Need-add-result-2
 add-result-2 c =
     let second = c .before .before in
-    omega (arith, c .kind-number3 .ensures, second .kind-number2 .ensures, second .before .before .kind-number .ensures,
-    kind-small (second .before .before .before .args .a), kind-small (second .before .neighbour .result),
-    kind-small (c .before .neighbour2 .result))
+    omega (
+      arith,
+      c .kind-number3 .ensures,
+      second .kind-number2 .ensures,
+      second .before .before .kind-number .ensures,
+      kind-small (second .before .before .before .args .a),
+      kind-small (second .before .neighbour .result),
+      kind-small (c .before .neighbour2 .result),
+    )
 
 returns : tie.Need-returns
 returns c =

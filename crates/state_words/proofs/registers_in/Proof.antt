@@ -42,10 +42,12 @@ loop-again : tie.Need-loop-again Inv-loop μ-loop
 loop-again c =
     let at = c .before in
     let words = at .before .args .t1 in
-    let zeros : List ℕ = replicate 31 0 in
-    (search needs, search needs,
-    ap (λ (l : List ℕ). set l (at .loop .i) (getD words (at .loop .i) 0)) (at .loop .inv .2)
-    ∙ one-more zeros words (at .loop .i) (omega arith) (omega arith))
+    let zeros : List ℕ = replicate 31 0 in (
+      search needs,
+      search needs,
+      ap (λ (l : List ℕ). set l (at .loop .i) (getD words (at .loop .i) 0)) (at .loop .inv .2)
+          ∙ one-more zeros words (at .loop .i) (omega arith) (omega arith),
+    )
 
 returns : tie.Need-returns Inv-loop μ-loop
 returns c =

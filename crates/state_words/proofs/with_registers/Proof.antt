@@ -43,20 +43,23 @@ loop-again : tie.Need-loop-again Inv-loop μ-loop
 loop-again c =
     let at = c .before in
     let words = at .before .args .words in
-    let regs = at .before .args .t2 in
-    (search needs, search needs,
-    ap (λ (l : List ℕ). set l (at .loop .i) (getD regs (at .loop .i) 0)) (at .loop .inv .2)
-    ∙ one-more words regs (at .loop .i) (omega arith) (omega arith))
+    let regs = at .before .args .t2 in (
+      search needs,
+      search needs,
+      ap (λ (l : List ℕ). set l (at .loop .i) (getD regs (at .loop .i) 0)) (at .loop .inv .2)
+          ∙ one-more words regs (at .loop .i) (omega arith) (omega arith),
+    )
 
 returns : tie.Need-returns Inv-loop μ-loop
 returns c =
     let at = c .before in
     let words = at .before .args .words in
     let regs = at .before .args .t2 in
-    let end : at .loop .i ≡ 31 = omega arith in
-    (omega arith,
-    at .loop .inv .2 ∙ ap (λ (k : ℕ). take k regs ++ drop k words) end
-    ∙ ap (λ (l : List ℕ). l ++ drop 31 words) (take-all 31 regs (omega arith)))
+    let end : at .loop .i ≡ 31 = omega arith in (
+      omega arith,
+      at .loop .inv .2 ∙ ap (λ (k : ℕ). take k regs ++ drop k words) end
+          ∙ ap (λ (l : List ℕ). l ++ drop 31 words) (take-all 31 regs (omega arith)),
+    )
 
 pub with-registers-spec : {M : Type 1} → statement M
 with-registers-spec =

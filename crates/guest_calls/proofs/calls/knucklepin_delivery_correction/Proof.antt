@@ -47,16 +47,38 @@ sum-requires-3 : tie.Need-sum-requires-3
 sum-requires-3 c κs = search needs
 
 returns : tie.Need-returns
-returns c = ?
+unfolding deliveryCorrection
+returns c =
+    let a = c .before .before .before .before .before .args in
+    let s = stateOf (now (a .state)) in
+    c .sum .ensures
+    ∙ ap asWord (c .before .correction .ensures ∙ ap (λ (x : Guest). correctionOf x Kind.Abort) (c .before .before .state-of .ensures))
+    ∙ at-kind (asWord (correctionOf s Kind.Abort)) 1 s refl (c .before .before .before .match .keys1)
 
 returns-2 : tie.Need-returns-2
-returns-2 c = ?
+unfolding deliveryCorrection
+returns-2 c =
+    let a = c .before .before .before .before .before .args in
+    let s = stateOf (now (a .state)) in
+    c .sum2 .ensures
+    ∙ ap asWord (c .before .correction2 .ensures ∙ ap (λ (x : Guest). correctionOf x Kind.Fiq) (c .before .before .state-of2 .ensures))
+    ∙ at-kind (asWord (correctionOf s Kind.Fiq)) 2 s refl (c .before .before .before .match .keys2)
 
 returns-3 : tie.Need-returns-3
-returns-3 c = ?
+unfolding deliveryCorrection
+returns-3 c =
+    let a = c .before .before .before .before .before .args in
+    let s = stateOf (now (a .state)) in
+    c .sum3 .ensures
+    ∙ ap asWord (c .before .correction3 .ensures ∙ ap (λ (x : Guest). correctionOf x Kind.Irq) (c .before .before .state-of3 .ensures))
+    ∙ at-kind (asWord (correctionOf s Kind.Irq)) 3 s refl (c .before .before .before .match .keys3)
 
 returns-4 : tie.Need-returns-4
-returns-4 c = ?
+unfolding deliveryCorrection
+returns-4 c =
+    let kind = c .before .before .args .kind in
+    let n = c .match .rest in
+    simp (ne-eqb kind 1 (n .0 .0 .1), ne-eqb kind 2 (n .0 .1), ne-eqb kind 3 (n .1))
 
 pub knucklepin-delivery-correction-spec : {M : Type 1} → statement M
 knucklepin-delivery-correction-spec =

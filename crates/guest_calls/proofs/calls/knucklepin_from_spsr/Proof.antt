@@ -35,10 +35,28 @@ enum-told : tie.Need-enum-told
 enum-told c = search needs
 
 returns : tie.Need-returns
-returns c = ?
+returns c =
+    let call = c .before .before .before in
+    let a = call .before .before .before .before .args in
+    at-answer (a .pan) (a .ssbs) (a .dit) (a .spsr)
+    (λ i. record {
+      pan = call .before .before .before .is-mark .ensures i;
+      ssbs = call .before .before .is-mark2 .ensures i;
+      dit = call .before .is-mark3 .ensures i;
+    })
+    (call .from-spsr .ensures .result) (c .before .word .given .1) refl refl
 
 returns-2 : tie.Need-returns-2
-returns-2 c = ?
+returns-2 c =
+    let call = c .before .before in
+    let a = call .before .before .before .before .args in
+    at-answer (a .pan) (a .ssbs) (a .dit) (a .spsr)
+    (λ i. record {
+      pan = call .before .before .before .is-mark .ensures i;
+      ssbs = call .before .before .is-mark2 .ensures i;
+      dit = call .before .is-mark3 .ensures i;
+    })
+    (call .from-spsr .ensures .result) (c .enum-told .given .1) refl refl
 
 pub knucklepin-from-spsr-spec : {M : Type 1} → statement M
 knucklepin-from-spsr-spec =

@@ -29,7 +29,9 @@ returns : tie.Need-returns
 returns c =
     let call = c .before .before .before in
     let w = now (call .before .before .before .before .args .state) in
-    let same = call .inject .ensures .result ∙ ap₂ injected (call .before .state-of .ensures) (call .before .before .injection-of .ensures) in
+    let same =
+    call .inject .ensures .result
+    ∙ ap₂ injected (call .before .state-of .ensures) (call .before .before .injection-of .ensures) in
     record {
       answer = c .number .ensures ∙ ap (λ (x : Injected). answerNumber (x .answer)) same;
       words = c .before .words-of .ensures ∙ ap (λ (x : Injected). wordsOf w (x .state)) same;

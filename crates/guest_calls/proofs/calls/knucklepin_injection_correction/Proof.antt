@@ -10,7 +10,8 @@ use Rattle.guest_calls.proofs.calls.knucklepin_injection_correction.Sta
 use Rattle.guest_calls.proofs.calls.knucklepin_injection_correction.Tie as tie
 
 returns : tie.Need-returns
-returns c = ?
+unfolding injectionCorrection
+returns c = simp (lt-ltb _ _ (c .if1 .taken))
 
 injection-of-requires : tie.Need-injection-of-requires
 injection-of-requires c κs = search needs
@@ -25,7 +26,13 @@ sum-requires : tie.Need-sum-requires
 sum-requires c κs = search needs
 
 returns-2 : tie.Need-returns-2
-returns-2 c = ?
+unfolding injectionCorrection
+returns-2 c =
+    c .sum .ensures
+    ∙ ap asWord
+    (c .before .correction .ensures
+    ∙ ap₂ correctionOf (c .before .before .state-of .ensures) (c .before .before .before .before .injection-of .ensures))
+    ∙ simp (le-ltb _ _ (c .before .before .before .before .before .if1 .left))
 
 pub knucklepin-injection-correction-spec : {M : Type 1} → statement M
 knucklepin-injection-correction-spec =

@@ -28,7 +28,9 @@ returns : tie.Need-returns
 returns c =
     let call = c .before .before .before in
     let a = call .before .before .before .args in
-    let same = call .resume .ensures .result ∙ ap (λ (s : Guest). returned s (Signed.Plus (a .correction))) (call .before .state-of .ensures) in
+    let same =
+    call .resume .ensures .result
+    ∙ ap (λ (s : Guest). returned s (Signed.Plus (a .correction))) (call .before .state-of .ensures) in
     record {
       answer = c .number .ensures ∙ ap (λ (x : Resumed). answerNumber (x .answer)) same;
       words = c .before .words-of .ensures ∙ ap (λ (x : Resumed). wordsOf (now (a .state)) (x .state)) same;
