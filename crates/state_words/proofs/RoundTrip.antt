@@ -10,6 +10,7 @@ use lib.ListN.{length, getD, take, drop, take-append-drop}
 use lib.Seq.{drop-cons, take-at, getD-append-add, getD-drop}
 use Rattle.exception.specs.declared.state.Guest.{Guest}
 use Rattle.state_words.specs.Words.{isMark, marksOf, stateOf, between, wordsOf}
+use Rattle.state_words.specs.Lent.{Lent}
 
 -- so many elements from a place on
 elements : ℕ → ℕ → List ℕ → List ℕ
@@ -24,13 +25,16 @@ from (suc n) k w h =
     ∙ ap (λ (l : List ℕ). getD w k 0 ∷ l)
     (from n (suc k) w (omega arith) ∙ ap (λ (m : ℕ). elements (suc k) n w ++ drop m w) (suc-add k n ∙ sym (add-suc k n)))
 
--- a refused call, which gives back the state as it came, so leaves every word as it came
 pub words-back : (w : List ℕ) → length w ≡ 48 → wordsOf w (stateOf w) ≡ w
 unfolding elements
 words-back w l =
     append-assoc (take 31 w) (between (stateOf w)) (drop 45 w)
     ∙ ap (λ (r : List ℕ). take 31 w ++ r) (sym (from 14 31 w (omega arith)))
     ∙ take-append-drop 31 w
+
+-- a call that gives back the state as it came leaves every word as it came
+pub untouched : {w w′ : List ℕ} {number n : ℕ} {after : Guest} → length w ≡ 48 → after ≡ stateOf w → Lent w number after n w′ → w′ ≡ w
+untouched {w = w} l e p = p .words ∙ ap (wordsOf w) e ∙ words-back w l
 
 -- what stands behind so many
 behind : (xs ys : List ℕ) (n i : ℕ) → length xs ≡ n → getD (xs ++ ys) (n + i) 0 ≡ getD ys i 0
