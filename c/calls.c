@@ -37,9 +37,10 @@ static const uint64_t NONE = UINT64_MAX;
 /* The masks of document 01's cases over sixteen editions (C-16): RAS is 1, LPA2 2, HAFDBS 4, LPA 8. */
 enum { WITHOUT_RAS = 0x5555, WITH_RAS = 0xaaaa, LPA2_WITHOUT_RAS = 0x4444, WITH_HAFDBS = 0xf0f0 };
 
-/* ---- words and records */
+/* ---- words and records. Those that are written out here have static storage, in which the words after the fields are 0. */
 
-static uint32_t read(uint32_t origin, uint32_t edition, uint64_t word, struct knucklepin_record *record, struct knucklepin_editions *editions) {
+static uint32_t esr_read(uint32_t origin, uint32_t edition, uint64_t word, struct knucklepin_record *record,
+                         struct knucklepin_editions *editions) {
     const struct knucklepin_esr esr = {word};
     UNWRITTEN(*record);
     UNWRITTEN(*editions);
@@ -49,14 +50,14 @@ static uint32_t read(uint32_t origin, uint32_t edition, uint64_t word, struct kn
 static bool reads(uint32_t edition, uint64_t word, uint32_t number, uint32_t mask, uint32_t count) {
     struct knucklepin_record record;
     struct knucklepin_editions editions;
-    uint32_t answer = read(KNUCKLEPIN_AARCH32, edition, word, &record, &editions);
+    uint32_t answer = esr_read(KNUCKLEPIN_AARCH32, edition, word, &record, &editions);
     uint64_t packed = knucklepin_read(edition, word);
     return answer == number && editions.mask == mask && editions.count == count && (number == 0 || ZEROS(record)) &&
            packed == number + ((uint64_t)mask << 8) + ((uint64_t)count << 24);
 }
 
-static uint32_t write(uint32_t origin, uint32_t edition, const struct knucklepin_record *record, struct knucklepin_esr *esr,
-                      struct knucklepin_editions *editions) {
+static uint32_t esr_write(uint32_t origin, uint32_t edition, const struct knucklepin_record *record, struct knucklepin_esr *esr,
+                          struct knucklepin_editions *editions) {
     UNWRITTEN(*esr);
     UNWRITTEN(*editions);
     return knucklepin_esr_write(origin, edition, record, esr, editions);
@@ -66,20 +67,21 @@ static uint32_t write(uint32_t origin, uint32_t edition, const struct knucklepin
 static bool unwritten(uint32_t edition, const struct knucklepin_record *record, uint32_t number) {
     struct knucklepin_esr esr;
     struct knucklepin_editions editions;
-    return write(KNUCKLEPIN_AARCH32, edition, record, &esr, &editions) == number && ZEROS(esr) && ZEROS(editions);
+    return esr_write(KNUCKLEPIN_AARCH32, edition, record, &esr, &editions) == number && ZEROS(esr) && ZEROS(editions);
 }
 
 /* The record of a word from AArch32 that edition 0 has. */
 static struct knucklepin_record record_of(uint64_t word) {
     struct knucklepin_record record;
     struct knucklepin_editions editions;
-    CHECK(read(KNUCKLEPIN_AARCH32, 0, word, &record, &editions) == 0);
+    CHECK(esr_read(KNUCKLEPIN_AARCH32, 0, word, &record, &editions) == 0);
     return record;
 }
 
 /* Words that are no record: a kind that there is none of, a flag above 1, and a word after the fields. */
 static struct knucklepin_record no_record(int which) {
-    struct knucklepin_record record = {.kind = KNUCKLEPIN_KIND_WFX, .wfx = {.il = 1, .cv = 1, .cond = 0xe, .ti = 1}};
+    static const struct knucklepin_record wfe = {.kind = KNUCKLEPIN_KIND_WFX, .wfx = {.il = 1, .cv = 1, .cond = 0xe, .ti = 1}};
+    struct knucklepin_record record = wfe;
     switch (which) {
     case 0: record.kind = 15; break;
     case 1: record.kind = 0xffffffff; break;
@@ -112,22 +114,22 @@ static void words(void) {
     CHECK(reads(0xffffffff, UINT64_MAX, KNUCKLEPIN_UNKNOWN_EDITION, 0, 0));
 
     /* 0x93830045: a word store, register 3, translation fault of level 1. */
-    CHECK(read(KNUCKLEPIN_AARCH32, 0, 0x93830045, &record, &editions) == 0);
-    const struct knucklepin_record store = {
+    CHECK(esr_read(KNUCKLEPIN_AARCH32, 0, 0x93830045, &record, &editions) == 0);
+    static const struct knucklepin_record store = {
         .kind = KNUCKLEPIN_KIND_DATA_ABORT, .data_abort = {.il = 1, .isv = 1, .sas = 2, .srt = 3, .wnr = 1, .fsc = 5}};
     CHECK(SAME(record, store));
     CHECK(ZEROS(editions));
-    CHECK(write(KNUCKLEPIN_AARCH32, 0, &store, &esr, &editions) == 0);
+    CHECK(esr_write(KNUCKLEPIN_AARCH32, 0, &store, &esr, &editions) == 0);
     CHECK(esr.word == 0x93830045 && ZEROS(editions));
     CHECK(knucklepin_rewrite(0, 15, 0x93830045) == 0x93830045);
     CHECK(knucklepin_rewrite(0, 1, 0x92000018) == NONE);
     CHECK(knucklepin_rewrite(16, 0, 0x93830045) == NONE);
 
     /* 0x0FE00001: MRC p15, read into register 0. 0x07E00001: WFE. 0x4A000001: HVC 1. */
-    const struct knucklepin_record mrc = {
+    static const struct knucklepin_record mrc = {
         .kind = KNUCKLEPIN_KIND_MCR, .mcr = {.ec = 0x03, .il = 1, .cv = 1, .cond = 0xe, .direction = 1}};
-    const struct knucklepin_record wfe = {.kind = KNUCKLEPIN_KIND_WFX, .wfx = {.il = 1, .cv = 1, .cond = 0xe, .ti = 1}};
-    const struct knucklepin_record hvc = {.kind = KNUCKLEPIN_KIND_CALL, .call = {.ec = 0x12, .il = 1, .imm16 = 1}};
+    static const struct knucklepin_record wfe = {.kind = KNUCKLEPIN_KIND_WFX, .wfx = {.il = 1, .cv = 1, .cond = 0xe, .ti = 1}};
+    static const struct knucklepin_record hvc = {.kind = KNUCKLEPIN_KIND_CALL, .call = {.ec = 0x12, .il = 1, .imm16 = 1}};
     record = record_of(0x0fe00001);
     CHECK(SAME(record, mrc));
     record = record_of(0x07e00001);
@@ -136,14 +138,14 @@ static void words(void) {
     CHECK(SAME(record, hvc));
 
     /* Class 0x18 from AArch64, by C-23: a read of Op0 3, Op1 0, CRn 1, CRm 0, Op2 0 into register 1. Any origin but 0 is AArch64. */
-    const struct knucklepin_record mrs = {
+    static const struct knucklepin_record mrs = {
         .kind = KNUCKLEPIN_KIND_SYSTEM, .system = {.il = 1, .op0 = 3, .crn = 1, .rt = 1, .direction = 1}};
-    CHECK(read(KNUCKLEPIN_AARCH64, 0, 0x62300421, &record, &editions) == 0);
+    CHECK(esr_read(KNUCKLEPIN_AARCH64, 0, 0x62300421, &record, &editions) == 0);
     CHECK(SAME(record, mrs));
-    CHECK(read(0xffffffff, 0, 0x62300421, &record, &editions) == 0);
+    CHECK(esr_read(0xffffffff, 0, 0x62300421, &record, &editions) == 0);
     CHECK(SAME(record, mrs));
-    CHECK(read(KNUCKLEPIN_AARCH32, 0, 0x62300421, &record, &editions) == KNUCKLEPIN_UNKNOWN_CLASS);
-    CHECK(write(77, 0, &mrs, &esr, &editions) == 0 && esr.word == 0x62300421);
+    CHECK(esr_read(KNUCKLEPIN_AARCH32, 0, 0x62300421, &record, &editions) == KNUCKLEPIN_UNKNOWN_CLASS);
+    CHECK(esr_write(77, 0, &mrs, &esr, &editions) == 0 && esr.word == 0x62300421);
     CHECK(knucklepin_aarch64_read(0, 0x62300421) == 0);
     CHECK(knucklepin_aarch64_read(0, 0x0fe00001) == KNUCKLEPIN_UNKNOWN_CLASS);
     CHECK(knucklepin_aarch64_read(16, 0) == KNUCKLEPIN_UNKNOWN_EDITION);
@@ -160,7 +162,7 @@ static void words(void) {
     record.data_abort.il = 1;
     record.data_abort.wnr = 0;
     record.data_abort.fsc = 0x18;
-    CHECK(write(KNUCKLEPIN_AARCH32, 1, &record, &esr, &editions) == KNUCKLEPIN_OTHER_EDITIONS);
+    CHECK(esr_write(KNUCKLEPIN_AARCH32, 1, &record, &esr, &editions) == KNUCKLEPIN_OTHER_EDITIONS);
     CHECK(editions.mask == WITHOUT_RAS && editions.count == 8 && ZEROS(esr));
     record.data_abort.fsc = 0x40000018;
     CHECK(unwritten(0, &record, KNUCKLEPIN_NO_EDITION));
@@ -178,7 +180,7 @@ static void short_words(void) {
     struct knucklepin_hsr hsr = {0x93830045};
 
     /* The same store in the short form, where SRT is 19:16. */
-    const struct knucklepin_short_record store = {
+    static const struct knucklepin_short_record store = {
         .kind = KNUCKLEPIN_KIND_DATA_ABORT, .data_abort = {.il = 1, .isv = 1, .sas = 2, .srt = 3, .wnr = 1, .fsc = 5}};
     UNWRITTEN(record);
     UNWRITTEN(editions);
@@ -218,7 +220,7 @@ static void short_words(void) {
     CHECK(ZEROS(wide));
 
     /* Register 14 of Supervisor mode is number 18 of AArch64's, register 13 of IRQ mode 17; a known register 15 is refused. */
-    struct knucklepin_record expected = {
+    static struct knucklepin_record expected = {
         .kind = KNUCKLEPIN_KIND_DATA_ABORT, .data_abort = {.il = 1, .isv = 1, .sas = 2, .srt = 18, .wnr = 1, .fsc = 5}};
     record = store;
     record.data_abort.srt = 14;
@@ -248,7 +250,7 @@ static void traps(void) {
     UNWRITTEN(addresses);
     UNWRITTEN(editions);
     CHECK(knucklepin_trap_read(KNUCKLEPIN_AARCH32, 0, esr, far, hpfar, &trap, &addresses, &editions) == 0);
-    const struct knucklepin_record abort = {.kind = KNUCKLEPIN_KIND_DATA_ABORT, .data_abort = {.il = 1, .fsc = 5}};
+    static const struct knucklepin_record abort = {.kind = KNUCKLEPIN_KIND_DATA_ABORT, .data_abort = {.il = 1, .fsc = 5}};
     CHECK(SAME(trap.record, abort) && trap.sort == KNUCKLEPIN_TRAP_ABORT && ZEROS(editions));
     CHECK(trap.virtual_known == 1 && addresses.virtual_address == 0x8abc);
     CHECK(trap.intermediate_known == KNUCKLEPIN_BYTE && addresses.intermediate_address == 0x1234abc);
@@ -317,7 +319,8 @@ static void modes(void) {
     CHECK(knucklepin_from_spsr(0, 0, 0x80000000, 0x01000010, &status) == 0 && status == 0x00200010);
     CHECK(knucklepin_from_spsr(0, 0, 0, 0x00200010, &status) == 0 && status == 0x10);
     CHECK(knucklepin_from_spsr(1, 1, 0, 0x01000010, &status) == KNUCKLEPIN_UNSOUND_STATUS && status == 0);
-    CHECK(knucklepin_from_spsr(1, 1, 1, 0xffffffff, &status) == KNUCKLEPIN_UNSOUND_STATUS && status == 0);
+    CHECK(knucklepin_from_spsr(1, 1, 1, 0xffffffff, &status) == 0 && status == 0xfeffffff);
+    CHECK(knucklepin_from_spsr(1, 1, 1, 0, &status) == KNUCKLEPIN_UNSOUND_STATUS && status == 0);
 }
 
 static bool refused_injection(const struct knucklepin_state *before, uint32_t injection, uint32_t fault, uint32_t level, uint64_t address,

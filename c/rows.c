@@ -268,9 +268,9 @@ static bool trapped(struct reply *reply, uint32_t origin, uint32_t edition, cons
     with_zeros(reply, &editions, sizeof editions);
     /* The sort goes by the record's kind and class. */
     uint32_t kind = trap.record.kind;
-    bool abort = kind == KNUCKLEPIN_KIND_INSTRUCTION_ABORT || kind == KNUCKLEPIN_KIND_DATA_ABORT;
+    bool aborted = kind == KNUCKLEPIN_KIND_INSTRUCTION_ABORT || kind == KNUCKLEPIN_KIND_DATA_ABORT;
     bool addressed = kind == KNUCKLEPIN_KIND_WATCHPOINT || (kind == KNUCKLEPIN_KIND_PLAIN && trap.record.plain.ec == 0x22);
-    uint32_t sort = abort ? KNUCKLEPIN_TRAP_ABORT : addressed ? KNUCKLEPIN_TRAP_ADDRESSED : KNUCKLEPIN_TRAP_PLAIN;
+    uint32_t sort = aborted ? KNUCKLEPIN_TRAP_ABORT : addressed ? KNUCKLEPIN_TRAP_ADDRESSED : KNUCKLEPIN_TRAP_PLAIN;
     if (trap.sort != sort) with(reply, UINT64_MAX);
     return true;
 }
