@@ -234,41 +234,41 @@ uint32_t knucklepin_from_spsr(uint32_t pan, uint32_t ssbs, uint32_t dit, uint32_
 
 /* ---- syndromes and whole traps ---- */
 
-/* Each of these six is called by the function without _raw below, which takes and gives the words by their types. */
-uint32_t knucklepin_esr_read_raw(uint32_t origin, uint32_t edition, uint64_t esr, struct knucklepin_record *record,
+/* A call whose name ends in _raw is made by the function without that end, which takes and gives the words by their types. */
+uint32_t knucklepin_esr_read_raw(uint32_t origin, uint32_t edition, uint64_t esr, struct knucklepin_record *syndrome,
                                  struct knucklepin_editions *editions);
-uint32_t knucklepin_esr_write_raw(uint32_t origin, uint32_t edition, const struct knucklepin_record *record, uint64_t *esr,
+uint32_t knucklepin_esr_write_raw(uint32_t origin, uint32_t edition, const struct knucklepin_record *syndrome, uint64_t *esr,
                                   struct knucklepin_editions *editions);
-uint32_t knucklepin_hsr_read_raw(uint32_t edition, uint32_t hsr, struct knucklepin_short_record *record,
+uint32_t knucklepin_hsr_read_raw(uint32_t edition, uint32_t hsr, struct knucklepin_short_record *syndrome,
                                  struct knucklepin_editions *editions);
-uint32_t knucklepin_hsr_write_raw(uint32_t edition, const struct knucklepin_short_record *record, uint32_t *hsr,
+uint32_t knucklepin_hsr_write_raw(uint32_t edition, const struct knucklepin_short_record *syndrome, uint32_t *hsr,
                                   struct knucklepin_editions *editions);
 
 /* Reads a syndrome word: 0, or 1 to 6. */
-static inline uint32_t knucklepin_esr_read(uint32_t origin, uint32_t edition, struct knucklepin_esr esr, struct knucklepin_record *record,
+static inline uint32_t knucklepin_esr_read(uint32_t origin, uint32_t edition, struct knucklepin_esr esr, struct knucklepin_record *syndrome,
                                            struct knucklepin_editions *editions)
 {
-    return knucklepin_esr_read_raw(origin, edition, esr.word, record, editions);
+    return knucklepin_esr_read_raw(origin, edition, esr.word, syndrome, editions);
 }
 
 /* Writes a record: 0, or 1, 4, 5 or 6. */
-static inline uint32_t knucklepin_esr_write(uint32_t origin, uint32_t edition, const struct knucklepin_record *record,
+static inline uint32_t knucklepin_esr_write(uint32_t origin, uint32_t edition, const struct knucklepin_record *syndrome,
                                             struct knucklepin_esr *esr, struct knucklepin_editions *editions)
 {
-    return knucklepin_esr_write_raw(origin, edition, record, &esr->word, editions);
+    return knucklepin_esr_write_raw(origin, edition, syndrome, &esr->word, editions);
 }
 
 /* The same of the short form, which a hypervisor in AArch32 reads: 0, or 1, 3, 4, 5 or 6; and 0, or 1, 4, 5 or 6. */
-static inline uint32_t knucklepin_hsr_read(uint32_t edition, struct knucklepin_hsr hsr, struct knucklepin_short_record *record,
+static inline uint32_t knucklepin_hsr_read(uint32_t edition, struct knucklepin_hsr hsr, struct knucklepin_short_record *syndrome,
                                            struct knucklepin_editions *editions)
 {
-    return knucklepin_hsr_read_raw(edition, hsr.word, record, editions);
+    return knucklepin_hsr_read_raw(edition, hsr.word, syndrome, editions);
 }
 
-static inline uint32_t knucklepin_hsr_write(uint32_t edition, const struct knucklepin_short_record *record, struct knucklepin_hsr *hsr,
+static inline uint32_t knucklepin_hsr_write(uint32_t edition, const struct knucklepin_short_record *syndrome, struct knucklepin_hsr *hsr,
                                             struct knucklepin_editions *editions)
 {
-    return knucklepin_hsr_write_raw(edition, record, &hsr->word, editions);
+    return knucklepin_hsr_write_raw(edition, syndrome, &hsr->word, editions);
 }
 
 /* A short record changed to a long one, in a guest's mode: 0, or 9 or 5. */
@@ -284,29 +284,36 @@ uint32_t knucklepin_widen(uint32_t mode, const struct knucklepin_short_record *f
 #define KNUCKLEPIN_PAGE UINT32_C(1) /* the intermediate address of the page, whose bits 11:0 are zero */
 #define KNUCKLEPIN_BYTE UINT32_C(2) /* the intermediate address itself */
 
-/* A whole trap: its record, its sort, whether the virtual address is known, and which intermediate address is. */
-struct knucklepin_trap {
-    struct knucklepin_record record;
+/* Which addresses a trap tells. */
+struct knucklepin_known {
     uint32_t sort, virtual_known, intermediate_known;
 };
-KNUCKLEPIN_WORDS(struct knucklepin_trap, 19);
+KNUCKLEPIN_WORDS(struct knucklepin_known, 3);
 
-/* Its addresses; one that isn't known is 0. */
+/* The addresses; one that isn't known is 0. */
 struct knucklepin_addresses {
     uint64_t virtual_address, intermediate_address;
 };
 KNUCKLEPIN_WORDS(struct knucklepin_addresses, 4);
 
+/* A whole trap. */
+struct knucklepin_trap {
+    struct knucklepin_record syndrome;
+    struct knucklepin_known known;
+    struct knucklepin_addresses addresses;
+};
+
 uint32_t knucklepin_trap_read_raw(uint32_t origin, uint32_t edition, uint64_t esr, uint64_t far, uint64_t hpfar,
-                                  struct knucklepin_trap *trap, struct knucklepin_addresses *addresses,
-                                  struct knucklepin_editions *editions);
+                                  struct knucklepin_record *syndrome, struct knucklepin_known *known,
+                                  struct knucklepin_addresses *addresses, struct knucklepin_editions *editions);
 
 /* Reads a whole trap: 0, or 1 to 8. */
 static inline uint32_t knucklepin_trap_read(uint32_t origin, uint32_t edition, struct knucklepin_esr esr, struct knucklepin_far far,
                                             struct knucklepin_hpfar hpfar, struct knucklepin_trap *trap,
-                                            struct knucklepin_addresses *addresses, struct knucklepin_editions *editions)
+                                            struct knucklepin_editions *editions)
 {
-    return knucklepin_trap_read_raw(origin, edition, esr.word, far.word, hpfar.word, trap, addresses, editions);
+    return knucklepin_trap_read_raw(origin, edition, esr.word, far.word, hpfar.word, &trap->syndrome, &trap->known, &trap->addresses,
+                                    editions);
 }
 
 /* ---- exceptions of the guest, and the return from them ---- */
@@ -364,14 +371,14 @@ uint32_t knucklepin_resume(struct knucklepin_state *state, uint32_t correction);
 /* ---- going on from a trap ---- */
 
 /* Whether a trapped instruction counts: one whose condition fails does nothing. */
-uint32_t knucklepin_passes(uint32_t status, const struct knucklepin_record *record);
+uint32_t knucklepin_passes(uint32_t status, const struct knucklepin_record *syndrome);
 
 /* Steps over the instruction: 0, or 5, 9 or 18. */
-uint32_t knucklepin_step_over(struct knucklepin_state *state, const struct knucklepin_record *record);
+uint32_t knucklepin_step_over(struct knucklepin_state *state, const struct knucklepin_record *syndrome);
 
 /* Finishes a load or store of a data abort with ISV 1: 0, or 5, 9 or 18. `value` is what the device gave to a load, and `given` what a
  * store, WnR 1, gives the device; of a load it is 0. */
-uint32_t knucklepin_finish(struct knucklepin_state *state, const struct knucklepin_record *record, uint32_t value, uint32_t *given);
+uint32_t knucklepin_finish(struct knucklepin_state *state, const struct knucklepin_record *syndrome, uint32_t value, uint32_t *given);
 
 /* What Rt and Rt2 hold. */
 struct knucklepin_pair {
@@ -381,7 +388,7 @@ KNUCKLEPIN_WORDS(struct knucklepin_pair, 2);
 
 /* Finishes a coprocessor read or write (MCR, MRC, VMRS, MCRR, MRRC): 0, or 5, 9 or 18. A read, direction 1, takes the values, and a write
  * gives them; what an instruction doesn't give is 0. */
-uint32_t knucklepin_coprocessor_finish(struct knucklepin_state *state, const struct knucklepin_record *record, uint32_t first,
+uint32_t knucklepin_coprocessor_finish(struct knucklepin_state *state, const struct knucklepin_record *syndrome, uint32_t first,
                                        uint32_t second, struct knucklepin_pair *given);
 
 /* ---- A32 loads and stores that the chip doesn't describe (ISV 0) ---- */
@@ -404,37 +411,34 @@ uint32_t knucklepin_coprocessor_finish(struct knucklepin_state *state, const str
 
 /* A load or store: its form and its fields (those that the form lacks are 0); whether memory is read, how wide a transfer is (SAS: 0 a
  * byte, 1 a halfword, 2 a word) and whether it is extended by its sign (SSE); how many registers it transfers; the first address, from
- * which the others follow at distances of 4; what is added to the base, modulo 2^32; and the registers, of the guest's mode, in transfer
- * order (0 after the last). */
+ * which the others follow at distances of 4; and what is added to the base, modulo 2^32. */
 struct knucklepin_access {
     uint32_t form, cond, p, u, w, rn, rt, imm, rm, list;
     uint32_t load, sas, sse;
     uint32_t count, address, change;
-    uint32_t registers[16];
 };
-KNUCKLEPIN_WORDS(struct knucklepin_access, 32);
+KNUCKLEPIN_WORDS(struct knucklepin_access, 16);
 
-/* What the instruction word at PC does in the guest's state: 0, or 9 or 19. */
-uint32_t knucklepin_a32_describe(const struct knucklepin_state *state, uint32_t word, struct knucklepin_access *access);
-
-/* What a device gave to a load, in transfer order. */
-struct knucklepin_values {
+/* A word for each register that is transferred, in transfer order, and 0 after the last. */
+struct knucklepin_list {
     uint32_t word[16];
 };
-KNUCKLEPIN_WORDS(struct knucklepin_values, 16);
+KNUCKLEPIN_WORDS(struct knucklepin_list, 16);
 
-/* What was transferred: 1 for a store; the number of transfers, the address of each, and what a store gives the device there (of a load
- * zeros). */
+/* What the instruction word at PC does in the guest's state, and its registers, which are the guest's mode's: 0, or 9 or 19. */
+uint32_t knucklepin_a32_describe(const struct knucklepin_state *state, uint32_t word, struct knucklepin_access *access,
+                                 struct knucklepin_list *registers);
+
+/* Whether a store was made, and how many registers were transferred. */
 struct knucklepin_transfer {
     uint32_t store, count;
-    uint32_t addresses[16];
-    uint32_t values[16];
 };
-KNUCKLEPIN_WORDS(struct knucklepin_transfer, 34);
+KNUCKLEPIN_WORDS(struct knucklepin_transfer, 2);
 
-/* Finishes the load or store that the word describes: 0, or 9 or 19. A store doesn't look at the values. */
-uint32_t knucklepin_a32_finish(struct knucklepin_state *state, uint32_t word, const struct knucklepin_values *values,
-                               struct knucklepin_transfer *transfer);
+/* Finishes the load or store that the word describes: 0, or 9 or 19. `values` are what the device gave to a load: a store doesn't look at
+ * them. `addresses` are those of the transfers, and `given` what a store gives the device there: of a load zeros. */
+uint32_t knucklepin_a32_finish(struct knucklepin_state *state, uint32_t word, const struct knucklepin_list *values,
+                               struct knucklepin_transfer *transfer, struct knucklepin_list *addresses, struct knucklepin_list *given);
 
 /* ---- logs ---- */
 
@@ -462,7 +466,7 @@ struct knucklepin_log_entry {
 KNUCKLEPIN_WORDS(struct knucklepin_log_entry, 10);
 
 /* Looks at entry i of the section after so many (0 for editions, 3 for injections) of any bytes. */
-void knucklepin_log_look(const uint8_t *log, uint64_t length, uint32_t passed, uint64_t i, struct knucklepin_log_entry *entry);
+void knucklepin_log_look(const uint8_t *log, uint64_t length, uint32_t passed, uint64_t i, struct knucklepin_log_entry *found);
 
 uint32_t knucklepin_log_write_raw(const uint8_t *editions, uint64_t edition_count, const uint64_t *syndromes, uint64_t syndrome_count,
                                   const uint64_t *fars, uint64_t far_count, const uint64_t *hpfars, uint64_t hpfar_count,
