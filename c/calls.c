@@ -238,57 +238,58 @@ static void short_words(void) {
     CHECK(ZEROS(wide));
 }
 
+/* Nothing but zeros between what may pad the struct. */
+static bool no_trap(const struct knucklepin_trap *trap) { return ZEROS(trap->syndrome) && ZEROS(trap->known) && ZEROS(trap->addresses); }
+
 static void traps(void) {
     struct knucklepin_trap trap;
-    struct knucklepin_addresses addresses;
     struct knucklepin_editions editions;
     struct knucklepin_esr esr = {0x92000005};
     struct knucklepin_far far = {0x8abc};
     struct knucklepin_hpfar hpfar = {0x12340};
 
     UNWRITTEN(trap);
-    UNWRITTEN(addresses);
     UNWRITTEN(editions);
-    CHECK(knucklepin_trap_read(KNUCKLEPIN_AARCH32, 0, esr, far, hpfar, &trap, &addresses, &editions) == 0);
+    CHECK(knucklepin_trap_read(KNUCKLEPIN_AARCH32, 0, esr, far, hpfar, &trap, &editions) == 0);
     static const struct knucklepin_record abort = {.kind = KNUCKLEPIN_KIND_DATA_ABORT, .data_abort = {.il = 1, .fsc = 5}};
-    CHECK(SAME(trap.record, abort) && trap.sort == KNUCKLEPIN_TRAP_ABORT && ZEROS(editions));
-    CHECK(trap.virtual_known == 1 && addresses.virtual_address == 0x8abc);
-    CHECK(trap.intermediate_known == KNUCKLEPIN_BYTE && addresses.intermediate_address == 0x1234abc);
+    CHECK(SAME(trap.syndrome, abort) && trap.known.sort == KNUCKLEPIN_TRAP_ABORT && ZEROS(editions));
+    CHECK(trap.known.virtual_known == 1 && trap.addresses.virtual_address == 0x8abc);
+    CHECK(trap.known.intermediate_known == KNUCKLEPIN_BYTE && trap.addresses.intermediate_address == 0x1234abc);
 
     /* S1PTW: the page alone. */
     esr.word = 0x92000085;
-    CHECK(knucklepin_trap_read(KNUCKLEPIN_AARCH32, 0, esr, far, hpfar, &trap, &addresses, &editions) == 0);
-    CHECK(trap.intermediate_known == KNUCKLEPIN_PAGE && addresses.intermediate_address == 0x1234000);
+    CHECK(knucklepin_trap_read(KNUCKLEPIN_AARCH32, 0, esr, far, hpfar, &trap, &editions) == 0);
+    CHECK(trap.known.intermediate_known == KNUCKLEPIN_PAGE && trap.addresses.intermediate_address == 0x1234000);
 
     /* A permission fault without S1PTW leaves HPFAR unknown, whatever it holds. */
     esr.word = 0x9200000d;
     hpfar.word = UINT64_MAX;
-    CHECK(knucklepin_trap_read(KNUCKLEPIN_AARCH32, 0, esr, far, hpfar, &trap, &addresses, &editions) == 0);
-    CHECK(trap.intermediate_known == KNUCKLEPIN_NO_ADDRESS && addresses.intermediate_address == 0 && trap.virtual_known == 1);
+    CHECK(knucklepin_trap_read(KNUCKLEPIN_AARCH32, 0, esr, far, hpfar, &trap, &editions) == 0);
+    CHECK(trap.known.intermediate_known == KNUCKLEPIN_NO_ADDRESS && trap.addresses.intermediate_address == 0 && trap.known.virtual_known == 1);
 
     /* PC alignment has FAR; HVC has neither. */
     esr.word = 0x8a000000;
-    CHECK(knucklepin_trap_read(KNUCKLEPIN_AARCH32, 0, esr, far, hpfar, &trap, &addresses, &editions) == 0);
-    CHECK(trap.sort == KNUCKLEPIN_TRAP_ADDRESSED && addresses.virtual_address == 0x8abc && addresses.intermediate_address == 0);
+    CHECK(knucklepin_trap_read(KNUCKLEPIN_AARCH32, 0, esr, far, hpfar, &trap, &editions) == 0);
+    CHECK(trap.known.sort == KNUCKLEPIN_TRAP_ADDRESSED && trap.addresses.virtual_address == 0x8abc && trap.addresses.intermediate_address == 0);
     esr.word = 0x4a000001;
     far.word = UINT64_MAX;
-    CHECK(knucklepin_trap_read(KNUCKLEPIN_AARCH32, 0, esr, far, hpfar, &trap, &addresses, &editions) == 0);
-    CHECK(trap.sort == KNUCKLEPIN_TRAP_PLAIN && trap.virtual_known == 0 && trap.intermediate_known == 0 && ZEROS(addresses));
+    CHECK(knucklepin_trap_read(KNUCKLEPIN_AARCH32, 0, esr, far, hpfar, &trap, &editions) == 0);
+    CHECK(trap.known.sort == KNUCKLEPIN_TRAP_PLAIN && trap.known.virtual_known == 0 && trap.known.intermediate_known == 0 && ZEROS(trap.addresses));
 
     /* Bit 40 of HPFAR is in the page with LPA alone; FAR's upper half is free from AArch64. */
     esr.word = 0x92000005;
     far.word = UINT64_C(0x100000000);
     hpfar.word = UINT64_C(0x10000000000);
-    CHECK(knucklepin_trap_read(KNUCKLEPIN_AARCH32, 0, esr, far, hpfar, &trap, &addresses, &editions) == KNUCKLEPIN_WIDE_HPFAR);
-    CHECK(ZEROS(trap) && ZEROS(addresses) && ZEROS(editions));
-    CHECK(knucklepin_trap_read(KNUCKLEPIN_AARCH32, KNUCKLEPIN_LPA, esr, far, hpfar, &trap, &addresses, &editions) == KNUCKLEPIN_WIDE_FAR);
-    CHECK(knucklepin_trap_read(KNUCKLEPIN_AARCH64, KNUCKLEPIN_LPA, esr, far, hpfar, &trap, &addresses, &editions) == 0);
-    CHECK(addresses.virtual_address == far.word && addresses.intermediate_address == UINT64_C(0x1000000000000));
-    CHECK(knucklepin_trap_read(0, 16, esr, far, hpfar, &trap, &addresses, &editions) == KNUCKLEPIN_UNKNOWN_EDITION);
-    CHECK(ZEROS(trap) && ZEROS(addresses) && ZEROS(editions));
+    CHECK(knucklepin_trap_read(KNUCKLEPIN_AARCH32, 0, esr, far, hpfar, &trap, &editions) == KNUCKLEPIN_WIDE_HPFAR);
+    CHECK(no_trap(&trap) && ZEROS(editions));
+    CHECK(knucklepin_trap_read(KNUCKLEPIN_AARCH32, KNUCKLEPIN_LPA, esr, far, hpfar, &trap, &editions) == KNUCKLEPIN_WIDE_FAR);
+    CHECK(knucklepin_trap_read(KNUCKLEPIN_AARCH64, KNUCKLEPIN_LPA, esr, far, hpfar, &trap, &editions) == 0);
+    CHECK(trap.addresses.virtual_address == far.word && trap.addresses.intermediate_address == UINT64_C(0x1000000000000));
+    CHECK(knucklepin_trap_read(0, 16, esr, far, hpfar, &trap, &editions) == KNUCKLEPIN_UNKNOWN_EDITION);
+    CHECK(no_trap(&trap) && ZEROS(editions));
     esr.word = 0x92000018;
-    CHECK(knucklepin_trap_read(0, 1, esr, far, hpfar, &trap, &addresses, &editions) == KNUCKLEPIN_OTHER_EDITIONS);
-    CHECK(editions.mask == WITHOUT_RAS && editions.count == 8 && ZEROS(trap));
+    CHECK(knucklepin_trap_read(0, 1, esr, far, hpfar, &trap, &editions) == KNUCKLEPIN_OTHER_EDITIONS);
+    CHECK(editions.mask == WITHOUT_RAS && editions.count == 8 && no_trap(&trap));
 }
 
 /* ---- the guest's state */
@@ -564,55 +565,67 @@ static void going_on(void) {
 static void a32(void) {
     struct knucklepin_state state = user(), expected = user();
     struct knucklepin_access access;
-    struct knucklepin_values values;
+    struct knucklepin_list registers, values, addresses, given;
     struct knucklepin_transfer transfer;
     for (uint32_t i = 0; i < 16; i++) values.word[i] = 0xcafe0000 + i;
 
     /* LDR r2, [r1, #4] */
     UNWRITTEN(access);
-    CHECK(knucklepin_a32_describe(&state, 0xe5912004, &access) == 0);
-    const struct knucklepin_access ldr = {.form = KNUCKLEPIN_LDR, .cond = 0xe, .p = 1, .u = 1, .rn = 1, .rt = 2, .imm = 4, .load = 1,
-                                          .sas = 2, .count = 1, .address = 0x105, .registers = {2}};
-    CHECK(SAME(access, ldr));
+    UNWRITTEN(registers);
+    CHECK(knucklepin_a32_describe(&state, 0xe5912004, &access, &registers) == 0);
+    const struct knucklepin_access ldr = {
+        .form = KNUCKLEPIN_LDR, .cond = 0xe, .p = 1, .u = 1, .rn = 1, .rt = 2, .imm = 4, .load = 1, .sas = 2, .count = 1, .address = 0x105};
+    const struct knucklepin_list register_2 = {{2}};
+    CHECK(SAME(access, ldr) && SAME(registers, register_2));
     UNWRITTEN(transfer);
-    CHECK(knucklepin_a32_finish(&state, 0xe5912004, &values, &transfer) == 0);
+    UNWRITTEN(addresses);
+    UNWRITTEN(given);
+    CHECK(knucklepin_a32_finish(&state, 0xe5912004, &values, &transfer, &addresses, &given) == 0);
     expected.regs[2] = 0xcafe0000;
     expected.pc = 0x8004;
     CHECK(SAME(state, expected));
-    const struct knucklepin_transfer loaded = {.count = 1, .addresses = {0x105}};
-    CHECK(SAME(transfer, loaded));
+    const struct knucklepin_list at_105 = {{0x105}};
+    CHECK(transfer.store == 0 && transfer.count == 1 && SAME(addresses, at_105) && ZEROS(given));
 
     /* LDMIA r1!, {r2, r3} */
     state = expected = user();
     UNWRITTEN(access);
-    CHECK(knucklepin_a32_describe(&state, 0xe8b1000c, &access) == 0);
-    const struct knucklepin_access ldm = {.form = KNUCKLEPIN_LDM, .cond = 0xe, .u = 1, .w = 1, .rn = 1, .list = 0xc, .load = 1, .sas = 2,
-                                          .count = 2, .address = 0x101, .change = 8, .registers = {2, 3}};
-    CHECK(SAME(access, ldm));
+    UNWRITTEN(registers);
+    CHECK(knucklepin_a32_describe(&state, 0xe8b1000c, &access, &registers) == 0);
+    const struct knucklepin_access ldm = {
+        .form = KNUCKLEPIN_LDM, .cond = 0xe, .u = 1, .w = 1, .rn = 1, .list = 0xc, .load = 1, .sas = 2, .count = 2, .address = 0x101, .change = 8};
+    const struct knucklepin_list registers_2_3 = {{2, 3}};
+    CHECK(SAME(access, ldm) && SAME(registers, registers_2_3));
     UNWRITTEN(transfer);
-    CHECK(knucklepin_a32_finish(&state, 0xe8b1000c, &values, &transfer) == 0);
+    UNWRITTEN(addresses);
+    UNWRITTEN(given);
+    CHECK(knucklepin_a32_finish(&state, 0xe8b1000c, &values, &transfer, &addresses, &given) == 0);
     expected.regs[1] = 0x109;
     expected.regs[2] = 0xcafe0000;
     expected.regs[3] = 0xcafe0001;
     expected.pc = 0x8004;
     CHECK(SAME(state, expected));
-    const struct knucklepin_transfer two = {.count = 2, .addresses = {0x101, 0x105}};
-    CHECK(SAME(transfer, two));
+    const struct knucklepin_list at_101_105 = {{0x101, 0x105}};
+    CHECK(transfer.store == 0 && transfer.count == 2 && SAME(addresses, at_101_105) && ZEROS(given));
 
     /* STMDB sp!, {r4, lr} */
     state = expected = user();
     UNWRITTEN(access);
-    CHECK(knucklepin_a32_describe(&state, 0xe92d4010, &access) == 0);
+    UNWRITTEN(registers);
+    CHECK(knucklepin_a32_describe(&state, 0xe92d4010, &access, &registers) == 0);
     const struct knucklepin_access stm = {.form = KNUCKLEPIN_STM, .cond = 0xe, .p = 1, .w = 1, .rn = 13, .list = 0x4010, .sas = 2,
-                                          .count = 2, .address = 0x105, .change = 0xfffffff8, .registers = {4, 14}};
-    CHECK(SAME(access, stm));
+                                          .count = 2, .address = 0x105, .change = 0xfffffff8};
+    const struct knucklepin_list registers_4_14 = {{4, 14}};
+    CHECK(SAME(access, stm) && SAME(registers, registers_4_14));
     UNWRITTEN(transfer);
-    CHECK(knucklepin_a32_finish(&state, 0xe92d4010, &values, &transfer) == 0);
+    UNWRITTEN(addresses);
+    UNWRITTEN(given);
+    CHECK(knucklepin_a32_finish(&state, 0xe92d4010, &values, &transfer, &addresses, &given) == 0);
     expected.regs[13] = 0x105;
     expected.pc = 0x8004;
     CHECK(SAME(state, expected));
-    const struct knucklepin_transfer stored = {.store = 1, .count = 2, .addresses = {0x105, 0x109}, .values = {0x104, 0x10e}};
-    CHECK(SAME(transfer, stored));
+    const struct knucklepin_list at_105_109 = {{0x105, 0x109}}, stored = {{0x104, 0x10e}};
+    CHECK(transfer.store == 1 && transfer.count == 2 && SAME(addresses, at_105_109) && SAME(given, stored));
 
     /* LDR r2, [r1, r3] and LDR r2, [pc, #8]; the words come back, and 0 (ANDEQ) is no load or store. */
     CHECK(knucklepin_a32_form(0xe5912004) == KNUCKLEPIN_LDR);
@@ -624,18 +637,23 @@ static void a32(void) {
     CHECK(knucklepin_a32_rewrite(0xffffffff) == NONE);
 
     /* Refusals: an unsound state first, then T32 state, then the word. */
-    state = expected = user();
-    UNWRITTEN(access);
-    UNWRITTEN(transfer);
-    CHECK(knucklepin_a32_describe(&state, 0, &access) == KNUCKLEPIN_NO_FORM && ZEROS(access));
-    CHECK(knucklepin_a32_finish(&state, 0, &values, &transfer) == KNUCKLEPIN_NO_FORM && ZEROS(transfer));
-    state.status = expected.status = 0x30;
-    CHECK(knucklepin_a32_describe(&state, 0xe5912004, &access) == KNUCKLEPIN_NO_FORM);
-    CHECK(knucklepin_a32_finish(&state, 0xe5912004, &values, &transfer) == KNUCKLEPIN_NO_FORM);
-    state.status = expected.status = 0xffffffff;
-    CHECK(knucklepin_a32_describe(&state, 0, &access) == KNUCKLEPIN_UNSOUND_STATUS && ZEROS(access));
-    CHECK(knucklepin_a32_finish(&state, 0, &values, &transfer) == KNUCKLEPIN_UNSOUND_STATUS && ZEROS(transfer));
-    CHECK(SAME(state, expected));
+    static const struct {
+        uint32_t status, word, number;
+    } REFUSED[] = {{0x10, 0, KNUCKLEPIN_NO_FORM}, {0x30, 0xe5912004, KNUCKLEPIN_NO_FORM}, {0xffffffff, 0, KNUCKLEPIN_UNSOUND_STATUS}};
+    for (size_t i = 0; i < 3; i++) {
+        state = user();
+        state.status = REFUSED[i].status;
+        expected = state;
+        UNWRITTEN(access);
+        UNWRITTEN(registers);
+        UNWRITTEN(transfer);
+        UNWRITTEN(addresses);
+        UNWRITTEN(given);
+        CHECK(knucklepin_a32_describe(&state, REFUSED[i].word, &access, &registers) == REFUSED[i].number);
+        CHECK(ZEROS(access) && ZEROS(registers));
+        CHECK(knucklepin_a32_finish(&state, REFUSED[i].word, &values, &transfer, &addresses, &given) == REFUSED[i].number);
+        CHECK(ZEROS(transfer) && ZEROS(addresses) && ZEROS(given) && SAME(state, expected));
+    }
 }
 
 /* ---- logs */

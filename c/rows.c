@@ -1,6 +1,6 @@
-/* Answers the second program's stored rows by the exported calls, and compares each answer with the stored one. Each argument is a folder that is
-   named as its program and holds `stdin`, a row a line, and `stdout`, its answer a line: second/README.md tells both. Ends with status 1 where an
-   answer differs. */
+/* Answers the second program's stored rows by the exported calls, and compares each answer with the stored one. Each argument is a folder
+   that is named as its program and holds `stdin`, a row a line, and `stdout`, its answer a line: second/README.md tells both. Ends with
+   status 1 where an answer differs. */
 #include "knucklepin.h"
 
 #include <inttypes.h>
@@ -243,35 +243,36 @@ static bool again_row(struct row *row, struct reply *reply) {
 /* The answer to reading a whole trap: whether it is shown. */
 static bool trapped(struct reply *reply, uint32_t origin, uint32_t edition, const uint64_t *registers) {
     struct knucklepin_trap trap;
-    struct knucklepin_addresses addresses;
     struct knucklepin_editions editions;
     UNWRITTEN(trap);
-    UNWRITTEN(addresses);
     UNWRITTEN(editions);
     const struct knucklepin_esr esr = {registers[0]};
     const struct knucklepin_far far = {registers[1]};
     const struct knucklepin_hpfar hpfar = {registers[2]};
-    uint32_t number = knucklepin_trap_read(origin, edition, esr, far, hpfar, &trap, &addresses, &editions);
+    uint32_t number = knucklepin_trap_read(origin, edition, esr, far, hpfar, &trap, &editions);
     if (number != KNUCKLEPIN_TAKEN) {
         reply->count = 0;
-        with_refusal(reply, number, &editions, &trap, sizeof trap);
-        with_zeros(reply, &addresses, sizeof addresses);
+        with_refusal(reply, number, &editions, &trap.syndrome, sizeof trap.syndrome);
+        with_zeros(reply, &trap.known, sizeof trap.known);
+        with_zeros(reply, &trap.addresses, sizeof trap.addresses);
         return false;
     }
-    with_record(reply, &trap.record);
-    with(reply, trap.virtual_known);
-    if (trap.virtual_known != 0) with(reply, addresses.virtual_address);
+    const struct knucklepin_known known = trap.known;
+    const struct knucklepin_addresses addresses = trap.addresses;
+    with_record(reply, &trap.syndrome);
+    with(reply, known.virtual_known);
+    if (known.virtual_known != 0) with(reply, addresses.virtual_address);
     else with_zeros(reply, &addresses.virtual_address, sizeof addresses.virtual_address);
-    with(reply, trap.intermediate_known);
-    if (trap.intermediate_known != KNUCKLEPIN_NO_ADDRESS) with(reply, addresses.intermediate_address);
+    with(reply, known.intermediate_known);
+    if (known.intermediate_known != KNUCKLEPIN_NO_ADDRESS) with(reply, addresses.intermediate_address);
     else with_zeros(reply, &addresses.intermediate_address, sizeof addresses.intermediate_address);
     with_zeros(reply, &editions, sizeof editions);
     /* The sort goes by the record's kind and class. */
-    uint32_t kind = trap.record.kind;
+    uint32_t kind = trap.syndrome.kind;
     bool aborted = kind == KNUCKLEPIN_KIND_INSTRUCTION_ABORT || kind == KNUCKLEPIN_KIND_DATA_ABORT;
-    bool addressed = kind == KNUCKLEPIN_KIND_WATCHPOINT || (kind == KNUCKLEPIN_KIND_PLAIN && trap.record.plain.ec == 0x22);
+    bool addressed = kind == KNUCKLEPIN_KIND_WATCHPOINT || (kind == KNUCKLEPIN_KIND_PLAIN && trap.syndrome.plain.ec == 0x22);
     uint32_t sort = aborted ? KNUCKLEPIN_TRAP_ABORT : addressed ? KNUCKLEPIN_TRAP_ADDRESSED : KNUCKLEPIN_TRAP_PLAIN;
-    if (trap.sort != sort) with(reply, UINT64_MAX);
+    if (known.sort != sort) with(reply, UINT64_MAX);
     return true;
 }
 
@@ -540,11 +541,14 @@ static bool decode_row(struct row *row, struct reply *reply) {
     if (!shaped(row, 0, "w")) return false;
     struct knucklepin_state state = {.status = KNUCKLEPIN_MODE_USR};
     struct knucklepin_access access;
+    struct knucklepin_list registers;
     UNWRITTEN(access);
-    uint32_t number = knucklepin_a32_describe(&state, word(row, 0), &access);
+    UNWRITTEN(registers);
+    uint32_t number = knucklepin_a32_describe(&state, word(row, 0), &access, &registers);
     uint64_t form = knucklepin_a32_form(word(row, 0)), again = knucklepin_a32_rewrite(word(row, 0));
     if (number != KNUCKLEPIN_TAKEN) {
         with_number(reply, number, &access, sizeof access);
+        with_zeros(reply, &registers, sizeof registers);
         if (form != UINT64_MAX || again != UINT64_MAX) with(reply, UINT64_MAX);
     } else {
         with(reply, 0);
@@ -559,10 +563,13 @@ static bool access_row(struct row *row, struct reply *reply) {
     if (!begins(row, 0, "w") || !is_state(row, 1) || row->count != 1 + STATE) return false;
     struct knucklepin_state state = state_of(row, 1);
     struct knucklepin_access access;
+    struct knucklepin_list registers;
     UNWRITTEN(access);
-    uint32_t number = knucklepin_a32_describe(&state, word(row, 0), &access);
+    UNWRITTEN(registers);
+    uint32_t number = knucklepin_a32_describe(&state, word(row, 0), &access, &registers);
     if (number != KNUCKLEPIN_TAKEN) {
         with_number(reply, number, &access, sizeof access);
+        with_zeros(reply, &registers, sizeof registers);
         return true;
     }
     with(reply, 0);
@@ -572,7 +579,7 @@ static bool access_row(struct row *row, struct reply *reply) {
     /* A row has the change modulo 2^64: it is taken away where U is 0. */
     uint32_t less = 0 - access.change;
     with(reply, access.u != 0 ? access.change : 0 - (uint64_t)less);
-    for (size_t i = 0; i < 16; i++) with(reply, access.registers[i]);
+    for (size_t i = 0; i < 16; i++) with(reply, registers.word[i]);
     with_transfer(reply, &access);
     return true;
 }

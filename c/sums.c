@@ -1,5 +1,6 @@
-/* Makes many calls on pseudo-random numbers and prints, for each call, how many were made, how many answered 0 and a sum over all that they gave.
-   Two machines on which the calls answer alike print the same lines. The argument is how many times each call is made. */
+/* Makes many calls on pseudo-random numbers and prints, for each call, how many were made, how many answered 0 and a sum over all that they
+   gave. Two machines on which the calls answer alike print the same lines, so no two numbers are drawn in one expression whose order the
+   language leaves free. The argument is how many times each call is made. */
 #include "knucklepin.h"
 
 #include <inttypes.h>
@@ -18,6 +19,8 @@ static uint64_t any(void) {
     z = (z ^ z >> 27) * UINT64_C(0x94d049bb133111eb);
     return z ^ z >> 31;
 }
+
+static uint32_t any32(void) { return (uint32_t)any(); }
 
 static uint32_t below(uint32_t n) { return (uint32_t)(any() >> 32) % n; }
 
@@ -52,20 +55,33 @@ static uint32_t syndrome(void) {
                                      0x92000018, 0xbe000000, 0xbe000011, 0xc2000022, 0xca000022, 0xcb000022, 0xd2000022, 0xe2000001,
                                      0xea000022, 0x93c2c047};
     uint32_t word = WORDS[below(sizeof WORDS / sizeof *WORDS)];
-    if (seldom(8)) word = (uint32_t)any();
+    if (seldom(8)) word = any32();
     if (seldom(2)) word = (word & ~UINT32_C(0x3f)) | below(64);
     for (uint32_t turns = below(3); turns > 0; turns--) word ^= UINT32_C(1) << below(32);
     return word;
 }
 
-static uint64_t wide_syndrome(void) { return syndrome() | (seldom(64) ? any() << 32 : 0); }
+static uint64_t wide_syndrome(void) {
+    uint64_t word = syndrome();
+    if (seldom(64)) word |= any() << 32;
+    return word;
+}
 
-static uint32_t edition(void) { return seldom(32) ? (uint32_t)any() : below(17); }
+/* A number below n, or any. */
+static uint32_t mostly_below(uint32_t n) { return seldom(32) ? any32() : below(n); }
 
-static uint32_t short_edition(void) { return seldom(32) ? (uint32_t)any() : below(3); }
+static uint32_t edition(void) { return mostly_below(17); }
 
-/* A number that a field may hold, or one that is too large. */
-static uint32_t field(void) { return seldom(4) ? (uint32_t)any() : below(33); }
+static uint32_t short_edition(void) { return mostly_below(3); }
+
+/* Some word of a record is another. */
+static void changed(uint32_t *kind, uint32_t *fields) {
+    if (seldom(4)) {
+        uint32_t place = below(15);
+        fields[place] = mostly_below(33);
+    }
+    if (seldom(32)) *kind = mostly_below(16);
+}
 
 static struct knucklepin_record record(uint32_t origin) {
     struct knucklepin_record record;
@@ -75,8 +91,7 @@ static struct knucklepin_record record(uint32_t origin) {
         const struct knucklepin_esr esr = {syndrome()};
         number = knucklepin_esr_read(origin, below(16), esr, &record, &editions);
     } while (number != KNUCKLEPIN_TAKEN);
-    if (seldom(4)) record.fields[below(15)] = field();
-    if (seldom(32)) record.kind = field();
+    changed(&record.kind, record.fields);
     return record;
 }
 
@@ -88,8 +103,7 @@ static struct knucklepin_short_record short_record(void) {
         const struct knucklepin_hsr hsr = {syndrome()};
         number = knucklepin_hsr_read(below(2), hsr, &record, &editions);
     } while (number != KNUCKLEPIN_TAKEN);
-    if (seldom(4)) record.fields[below(15)] = field();
-    if (seldom(32)) record.kind = field();
+    changed(&record.kind, record.fields);
     return record;
 }
 
@@ -98,16 +112,20 @@ static uint32_t mode(void) {
     return seldom(16) ? below(32) : MODES[below(7)];
 }
 
-static uint32_t status(void) { return ((uint32_t)any() & (seldom(16) ? 0xffffffff : 0xfe1fffe0)) | mode(); }
+static uint32_t status(void) {
+    uint32_t word = any32();
+    if (!seldom(16)) word &= 0xfe1fffe0;
+    return (word & ~UINT32_C(31)) | mode();
+}
 
 static struct knucklepin_state state(void) {
     uint32_t words[48];
-    for (size_t i = 0; i < 48; i++) words[i] = (uint32_t)any();
+    for (size_t i = 0; i < 48; i++) words[i] = any32();
     struct knucklepin_state state;
     memcpy(&state, words, sizeof state);
     state.pan = below(2);
     state.ssbs = below(2);
-    state.dit = seldom(16) ? state.dit : below(2);
+    state.dit = mostly_below(2);
     state.status = status();
     state.spsr_fiq = status();
     state.spsr_irq = status();
@@ -122,8 +140,10 @@ static struct knucklepin_state state(void) {
 static uint32_t instruction(void) {
     static const uint32_t WORDS[] = {0xe5912004, 0xe7912003, 0xe59f2008, 0xe8b1000c, 0xe92d4010, 0xe1d120b4, 0xe1c120b4, 0xe19120d3,
                                      0xe1c120d8, 0xe1c120f8, 0xe5c12001, 0xe0112093, 0xe49d2004};
-    uint32_t word = WORDS[below(sizeof WORDS / sizeof *WORDS)] ^ ((uint32_t)any() & 0x01e0ffff & (uint32_t)any());
-    return seldom(8) ? (uint32_t)any() : word;
+    uint32_t word = WORDS[below(sizeof WORDS / sizeof *WORDS)];
+    uint32_t turned = any32();
+    word ^= turned & 0x01e0ffff & any32();
+    return seldom(8) ? any32() : word;
 }
 
 /* ---- the calls */
@@ -132,7 +152,8 @@ static void esr_read(struct sum *sum) {
     struct knucklepin_record record;
     struct knucklepin_editions editions;
     const struct knucklepin_esr esr = {wide_syndrome()};
-    answered(sum, knucklepin_esr_read(below(3), edition(), esr, &record, &editions));
+    uint32_t origin = below(3);
+    answered(sum, knucklepin_esr_read(origin, edition(), esr, &record, &editions));
     ADD(sum, record);
     ADD(sum, editions);
 }
@@ -174,44 +195,47 @@ static void widen(struct sum *sum) {
 
 static void trap_read(struct sum *sum) {
     struct knucklepin_trap trap;
-    struct knucklepin_addresses addresses;
     struct knucklepin_editions editions;
     const struct knucklepin_esr esr = {wide_syndrome()};
-    const struct knucklepin_far far = {seldom(8) ? any() : (uint32_t)any()};
+    const struct knucklepin_far far = {seldom(8) ? any() : any32()};
     const struct knucklepin_hpfar hpfar = {seldom(8) ? any() : any() & UINT64_C(0xffffffffff0)};
-    answered(sum, knucklepin_trap_read(below(2), edition(), esr, far, hpfar, &trap, &addresses, &editions));
-    ADD(sum, trap);
-    ADD(sum, addresses);
+    uint32_t origin = below(2);
+    answered(sum, knucklepin_trap_read(origin, edition(), esr, far, hpfar, &trap, &editions));
+    ADD(sum, trap.syndrome);
+    ADD(sum, trap.known);
+    ADD(sum, trap.addresses);
     ADD(sum, editions);
 }
 
 static void held_in(struct sum *sum) {
-    uint32_t number = knucklepin_held_in(mode(), below(17));
+    uint32_t asked = mode();
+    uint32_t number = knucklepin_held_in(asked, below(17));
     sum->taken += number != KNUCKLEPIN_NOWHERE;
     ADD(sum, number);
 }
 
 static void from_spsr(struct sum *sum) {
-    uint32_t word;
-    answered(sum, knucklepin_from_spsr(below(2), below(2), below(3), seldom(4) ? (uint32_t)any() : status() | below(2) << 24, &word));
+    uint32_t pan = below(2), ssbs = below(2), dit = below(3), spsr = status(), word;
+    spsr |= below(2) << 24;
+    answered(sum, knucklepin_from_spsr(pan, ssbs, dit, spsr, &word));
     ADD(sum, word);
 }
 
 static void inject(struct sum *sum) {
     struct knucklepin_state guest = state();
-    uint32_t injection = seldom(16) ? (uint32_t)any() : below(5), fault = seldom(16) ? (uint32_t)any() : below(5);
+    uint32_t injection = mostly_below(5), fault = mostly_below(5), level = mostly_below(5), write = below(3), domain = mostly_below(17);
+    uint64_t address = seldom(16) ? any() : any32();
     uint32_t correction = knucklepin_injection_correction(&guest, injection);
-    uint64_t address = seldom(16) ? any() : (uint32_t)any();
-    answered(sum, knucklepin_inject(&guest, injection, fault, seldom(16) ? (uint32_t)any() : 1 + below(3), address, below(3), below(17)));
+    answered(sum, knucklepin_inject(&guest, injection, fault, level, address, write, domain));
     ADD(sum, correction);
     ADD(sum, guest);
 }
 
 static void raise_and_deliver(struct sum *sum) {
     struct knucklepin_state guest = state();
-    uint32_t correction = knucklepin_delivery_correction(&guest, below(5));
-    struct knucklepin_pending pending = {seldom(4) ? (uint32_t)any() : 0, (uint32_t)any()};
-    for (uint32_t i = below(4); i > 0; i--) pending.queue = knucklepin_raise(pending.queue, below(5));
+    uint32_t correction = knucklepin_delivery_correction(&guest, mostly_below(5));
+    struct knucklepin_pending pending = {seldom(4) ? any32() : 0, 0xa5a5a5a5};
+    for (uint32_t i = below(4); i > 0; i--) pending.queue = knucklepin_raise(pending.queue, mostly_below(5));
     answered(sum, knucklepin_deliver(&guest, &pending));
     ADD(sum, correction);
     ADD(sum, pending);
@@ -220,7 +244,7 @@ static void raise_and_deliver(struct sum *sum) {
 
 static void resume(struct sum *sum) {
     struct knucklepin_state guest = state();
-    answered(sum, knucklepin_resume(&guest, seldom(4) ? (uint32_t)any() : 4 * below(3)));
+    answered(sum, knucklepin_resume(&guest, seldom(4) ? any32() : 4 * below(3)));
     ADD(sum, guest);
 }
 
@@ -237,7 +261,7 @@ static void finish(struct sum *sum) {
     const struct knucklepin_record asked = record(KNUCKLEPIN_AARCH32);
     struct knucklepin_state guest = state();
     uint32_t given;
-    answered(sum, knucklepin_finish(&guest, &asked, (uint32_t)any(), &given));
+    answered(sum, knucklepin_finish(&guest, &asked, any32(), &given));
     ADD(sum, given);
     ADD(sum, guest);
 }
@@ -246,7 +270,7 @@ static void coprocessor_finish(struct sum *sum) {
     const struct knucklepin_record asked = record(KNUCKLEPIN_AARCH32);
     struct knucklepin_state guest = state();
     struct knucklepin_pair given;
-    uint32_t first = (uint32_t)any(), second = (uint32_t)any();
+    uint32_t first = any32(), second = any32();
     answered(sum, knucklepin_coprocessor_finish(&guest, &asked, first, second, &given));
     ADD(sum, given);
     ADD(sum, guest);
@@ -255,17 +279,21 @@ static void coprocessor_finish(struct sum *sum) {
 static void a32_describe(struct sum *sum) {
     const struct knucklepin_state guest = state();
     struct knucklepin_access access;
-    answered(sum, knucklepin_a32_describe(&guest, instruction(), &access));
+    struct knucklepin_list registers;
+    answered(sum, knucklepin_a32_describe(&guest, instruction(), &access, &registers));
     ADD(sum, access);
+    ADD(sum, registers);
 }
 
 static void a32_finish(struct sum *sum) {
     struct knucklepin_state guest = state();
-    struct knucklepin_values values;
+    struct knucklepin_list values, addresses, given;
     struct knucklepin_transfer transfer;
-    for (size_t i = 0; i < 16; i++) values.word[i] = (uint32_t)any();
-    answered(sum, knucklepin_a32_finish(&guest, instruction(), &values, &transfer));
+    for (size_t i = 0; i < 16; i++) values.word[i] = any32();
+    answered(sum, knucklepin_a32_finish(&guest, instruction(), &values, &transfer, &addresses, &given));
     ADD(sum, transfer);
+    ADD(sum, addresses);
+    ADD(sum, given);
     ADD(sum, guest);
 }
 
@@ -276,29 +304,34 @@ static void logs(struct sum *sum) {
     struct knucklepin_far fars[3];
     struct knucklepin_hpfar hpfars[3];
     uint16_t injections[3];
-    for (size_t i = 0; i < 4; i++) editions[i] = (uint8_t)any();
+    for (size_t i = 0; i < 4; i++) editions[i] = (uint8_t)any32();
     for (size_t i = 0; i < 3; i++) {
         syndromes[i].word = any();
         fars[i].word = any();
         hpfars[i].word = any();
-        injections[i] = (uint16_t)(any() & (seldom(8) ? 0x1fff : 0x0fff));
+        injections[i] = (uint16_t)(any32() & 0x0fff);
+        if (seldom(16)) injections[i] |= 0x1000;
     }
-    uint64_t traps = below(4), length, room = seldom(4) ? below(129) : 128;
-    uint64_t edition_count = below(5), far_count = seldom(8) ? below(4) : traps, injection_count = below(4);
-    answered(sum, knucklepin_log_write(editions, edition_count, syndromes, traps, fars, far_count, hpfars, traps, injections,
+    uint64_t edition_count = below(5), syndrome_count = below(4), injection_count = below(4), length;
+    uint64_t far_count = seldom(8) ? below(4) : syndrome_count, hpfar_count = seldom(8) ? below(4) : syndrome_count;
+    uint64_t room = seldom(4) ? below(129) : 128;
+    answered(sum, knucklepin_log_write(editions, edition_count, syndromes, syndrome_count, fars, far_count, hpfars, hpfar_count, injections,
                                        injection_count, buffer, room, &length));
     ADD(sum, length);
     ADD(sum, buffer);
-    if (seldom(2)) buffer[below(128)] = (uint8_t)below(8);
+    if (seldom(2)) {
+        uint32_t place = below(128);
+        buffer[place] = (uint8_t)below(8);
+    }
     if (seldom(4)) length = below(129);
     struct knucklepin_log_answer answer;
     uint32_t number = knucklepin_log_read(buffer, length, &answer);
-    struct knucklepin_log_entry entry;
-    uint32_t passed = below(6);
-    knucklepin_log_look(buffer, length, passed, seldom(16) ? any() : below(4), &entry);
+    struct knucklepin_log_entry found;
+    uint32_t passed = mostly_below(6);
+    knucklepin_log_look(buffer, length, passed, seldom(16) ? any() : below(4), &found);
     ADD(sum, number);
     ADD(sum, answer);
-    ADD(sum, entry);
+    ADD(sum, found);
 }
 
 static void single_numbers(struct sum *sum) {
