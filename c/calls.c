@@ -1,5 +1,5 @@
-/* Makes every call of include/knucklepin.h, on questions whose answers were worked out by hand from the papers, and on numbers that mean nothing,
-   which are answered too. Prints each answer that is another, and ends with status 1 where there is one. */
+/* Makes every call of include/knucklepin.h, on questions whose answers were worked out by hand from the papers, and on numbers that mean
+   nothing, which are answered too. Prints each answer that is another, and ends with status 1 where there is one. */
 #include "knucklepin.h"
 
 #include <stdbool.h>
@@ -8,7 +8,8 @@
 
 static unsigned checks, wrong;
 
-static void check(bool holds, const char *what, int line) {
+static void check(bool holds, const char *what, int line)
+{
     checks++;
     if (!holds) {
         wrong++;
@@ -22,7 +23,8 @@ static void check(bool holds, const char *what, int line) {
 /* What a call writes holds other numbers before it. */
 #define UNWRITTEN(place) memset(&(place), 0xa5, sizeof(place))
 
-static bool zeros(const void *place, size_t size) {
+static bool zeros(const void *place, size_t size)
+{
     const unsigned char *byte = place;
     for (size_t i = 0; i < size; i++) {
         if (byte[i] != 0) return false;
@@ -40,14 +42,16 @@ enum { WITHOUT_RAS = 0x5555, WITH_RAS = 0xaaaa, LPA2_WITHOUT_RAS = 0x4444, WITH_
 /* ---- words and records. Those that are written out here have static storage, in which the words after the fields are 0. */
 
 static uint32_t esr_read(uint32_t origin, uint32_t edition, uint64_t word, struct knucklepin_record *record,
-                         struct knucklepin_editions *editions) {
+                         struct knucklepin_editions *editions)
+{
     const struct knucklepin_esr esr = {word};
     UNWRITTEN(*record);
     UNWRITTEN(*editions);
     return knucklepin_esr_read(origin, edition, esr, record, editions);
 }
 
-static bool reads(uint32_t edition, uint64_t word, uint32_t number, uint32_t mask, uint32_t count) {
+static bool reads(uint32_t edition, uint64_t word, uint32_t number, uint32_t mask, uint32_t count)
+{
     struct knucklepin_record record;
     struct knucklepin_editions editions;
     uint32_t answer = esr_read(KNUCKLEPIN_AARCH32, edition, word, &record, &editions);
@@ -57,21 +61,24 @@ static bool reads(uint32_t edition, uint64_t word, uint32_t number, uint32_t mas
 }
 
 static uint32_t esr_write(uint32_t origin, uint32_t edition, const struct knucklepin_record *record, struct knucklepin_esr *esr,
-                          struct knucklepin_editions *editions) {
+                          struct knucklepin_editions *editions)
+{
     UNWRITTEN(*esr);
     UNWRITTEN(*editions);
     return knucklepin_esr_write(origin, edition, record, esr, editions);
 }
 
 /* Whether a record is refused, with nothing but the number. */
-static bool unwritten(uint32_t edition, const struct knucklepin_record *record, uint32_t number) {
+static bool unwritten(uint32_t edition, const struct knucklepin_record *record, uint32_t number)
+{
     struct knucklepin_esr esr;
     struct knucklepin_editions editions;
     return esr_write(KNUCKLEPIN_AARCH32, edition, record, &esr, &editions) == number && ZEROS(esr) && ZEROS(editions);
 }
 
 /* The record of a word from AArch32 that edition 0 has. */
-static struct knucklepin_record record_of(uint64_t word) {
+static struct knucklepin_record record_of(uint64_t word)
+{
     struct knucklepin_record record;
     struct knucklepin_editions editions;
     CHECK(esr_read(KNUCKLEPIN_AARCH32, 0, word, &record, &editions) == 0);
@@ -79,7 +86,8 @@ static struct knucklepin_record record_of(uint64_t word) {
 }
 
 /* Words that are no record: a kind that there is none of, a flag above 1, and a word after the fields. */
-static struct knucklepin_record no_record(int which) {
+static struct knucklepin_record no_record(int which)
+{
     static const struct knucklepin_record wfe = {.kind = KNUCKLEPIN_KIND_WFX, .wfx = {.il = 1, .cv = 1, .cond = 0xe, .ti = 1}};
     struct knucklepin_record record = wfe;
     switch (which) {
@@ -94,7 +102,8 @@ static struct knucklepin_record no_record(int which) {
 
 enum { NO_RECORDS = 5 };
 
-static void words(void) {
+static void words(void)
+{
     struct knucklepin_record record;
     struct knucklepin_editions editions;
     struct knucklepin_esr esr;
@@ -115,8 +124,8 @@ static void words(void) {
 
     /* 0x93830045: a word store, register 3, translation fault of level 1. */
     CHECK(esr_read(KNUCKLEPIN_AARCH32, 0, 0x93830045, &record, &editions) == 0);
-    static const struct knucklepin_record store = {
-        .kind = KNUCKLEPIN_KIND_DATA_ABORT, .data_abort = {.il = 1, .isv = 1, .sas = 2, .srt = 3, .wnr = 1, .fsc = 5}};
+    static const struct knucklepin_record store = {.kind = KNUCKLEPIN_KIND_DATA_ABORT,
+                                                   .data_abort = {.il = 1, .isv = 1, .sas = 2, .srt = 3, .wnr = 1, .fsc = 5}};
     CHECK(SAME(record, store));
     CHECK(ZEROS(editions));
     CHECK(esr_write(KNUCKLEPIN_AARCH32, 0, &store, &esr, &editions) == 0);
@@ -126,8 +135,8 @@ static void words(void) {
     CHECK(knucklepin_rewrite(16, 0, 0x93830045) == NONE);
 
     /* 0x0FE00001: MRC p15, read into register 0. 0x07E00001: WFE. 0x4A000001: HVC 1. */
-    static const struct knucklepin_record mrc = {
-        .kind = KNUCKLEPIN_KIND_MCR, .mcr = {.ec = 0x03, .il = 1, .cv = 1, .cond = 0xe, .direction = 1}};
+    static const struct knucklepin_record mrc = {.kind = KNUCKLEPIN_KIND_MCR,
+                                                 .mcr = {.ec = 0x03, .il = 1, .cv = 1, .cond = 0xe, .direction = 1}};
     static const struct knucklepin_record wfe = {.kind = KNUCKLEPIN_KIND_WFX, .wfx = {.il = 1, .cv = 1, .cond = 0xe, .ti = 1}};
     static const struct knucklepin_record hvc = {.kind = KNUCKLEPIN_KIND_CALL, .call = {.ec = 0x12, .il = 1, .imm16 = 1}};
     record = record_of(0x0fe00001);
@@ -138,8 +147,8 @@ static void words(void) {
     CHECK(SAME(record, hvc));
 
     /* Class 0x18 from AArch64, by C-23: a read of Op0 3, Op1 0, CRn 1, CRm 0, Op2 0 into register 1. Any origin but 0 is AArch64. */
-    static const struct knucklepin_record mrs = {
-        .kind = KNUCKLEPIN_KIND_SYSTEM, .system = {.il = 1, .op0 = 3, .crn = 1, .rt = 1, .direction = 1}};
+    static const struct knucklepin_record mrs = {.kind = KNUCKLEPIN_KIND_SYSTEM,
+                                                 .system = {.il = 1, .op0 = 3, .crn = 1, .rt = 1, .direction = 1}};
     CHECK(esr_read(KNUCKLEPIN_AARCH64, 0, 0x62300421, &record, &editions) == 0);
     CHECK(SAME(record, mrs));
     CHECK(esr_read(0xffffffff, 0, 0x62300421, &record, &editions) == 0);
@@ -173,15 +182,16 @@ static void words(void) {
     }
 }
 
-static void short_words(void) {
+static void short_words(void)
+{
     struct knucklepin_short_record record;
     struct knucklepin_record wide;
     struct knucklepin_editions editions;
     struct knucklepin_hsr hsr = {0x93830045};
 
     /* The same store in the short form, where SRT is 19:16. */
-    static const struct knucklepin_short_record store = {
-        .kind = KNUCKLEPIN_KIND_DATA_ABORT, .data_abort = {.il = 1, .isv = 1, .sas = 2, .srt = 3, .wnr = 1, .fsc = 5}};
+    static const struct knucklepin_short_record store = {.kind = KNUCKLEPIN_KIND_DATA_ABORT,
+                                                         .data_abort = {.il = 1, .isv = 1, .sas = 2, .srt = 3, .wnr = 1, .fsc = 5}};
     UNWRITTEN(record);
     UNWRITTEN(editions);
     CHECK(knucklepin_hsr_read(0, hsr, &record, &editions) == 0);
@@ -220,8 +230,8 @@ static void short_words(void) {
     CHECK(ZEROS(wide));
 
     /* Register 14 of Supervisor mode is number 18 of AArch64's, register 13 of IRQ mode 17; a known register 15 is refused. */
-    static struct knucklepin_record expected = {
-        .kind = KNUCKLEPIN_KIND_DATA_ABORT, .data_abort = {.il = 1, .isv = 1, .sas = 2, .srt = 18, .wnr = 1, .fsc = 5}};
+    static struct knucklepin_record expected = {.kind = KNUCKLEPIN_KIND_DATA_ABORT,
+                                                .data_abort = {.il = 1, .isv = 1, .sas = 2, .srt = 18, .wnr = 1, .fsc = 5}};
     record = store;
     record.data_abort.srt = 14;
     UNWRITTEN(wide);
@@ -239,9 +249,13 @@ static void short_words(void) {
 }
 
 /* Nothing but zeros between what may pad the struct. */
-static bool no_trap(const struct knucklepin_trap *trap) { return ZEROS(trap->syndrome) && ZEROS(trap->known) && ZEROS(trap->addresses); }
+static bool no_trap(const struct knucklepin_trap *trap)
+{
+    return ZEROS(trap->syndrome) && ZEROS(trap->known) && ZEROS(trap->addresses);
+}
 
-static void traps(void) {
+static void traps(void)
+{
     struct knucklepin_trap trap;
     struct knucklepin_editions editions;
     struct knucklepin_esr esr = {0x92000005};
@@ -265,16 +279,19 @@ static void traps(void) {
     esr.word = 0x9200000d;
     hpfar.word = UINT64_MAX;
     CHECK(knucklepin_trap_read(KNUCKLEPIN_AARCH32, 0, esr, far, hpfar, &trap, &editions) == 0);
-    CHECK(trap.known.intermediate_known == KNUCKLEPIN_NO_ADDRESS && trap.addresses.intermediate_address == 0 && trap.known.virtual_known == 1);
+    CHECK(trap.known.intermediate_known == KNUCKLEPIN_NO_ADDRESS && trap.addresses.intermediate_address == 0 &&
+          trap.known.virtual_known == 1);
 
     /* PC alignment has FAR; HVC has neither. */
     esr.word = 0x8a000000;
     CHECK(knucklepin_trap_read(KNUCKLEPIN_AARCH32, 0, esr, far, hpfar, &trap, &editions) == 0);
-    CHECK(trap.known.sort == KNUCKLEPIN_TRAP_ADDRESSED && trap.addresses.virtual_address == 0x8abc && trap.addresses.intermediate_address == 0);
+    CHECK(trap.known.sort == KNUCKLEPIN_TRAP_ADDRESSED && trap.addresses.virtual_address == 0x8abc &&
+          trap.addresses.intermediate_address == 0);
     esr.word = 0x4a000001;
     far.word = UINT64_MAX;
     CHECK(knucklepin_trap_read(KNUCKLEPIN_AARCH32, 0, esr, far, hpfar, &trap, &editions) == 0);
-    CHECK(trap.known.sort == KNUCKLEPIN_TRAP_PLAIN && trap.known.virtual_known == 0 && trap.known.intermediate_known == 0 && ZEROS(trap.addresses));
+    CHECK(trap.known.sort == KNUCKLEPIN_TRAP_PLAIN && trap.known.virtual_known == 0 && trap.known.intermediate_known == 0 &&
+          ZEROS(trap.addresses));
 
     /* Bit 40 of HPFAR is in the page with LPA alone; FAR's upper half is free from AArch64. */
     esr.word = 0x92000005;
@@ -295,13 +312,15 @@ static void traps(void) {
 /* ---- the guest's state */
 
 /* User mode, A32, PC 0x8000, VBAR 0x1000; register n holds 0x100 + n. */
-static struct knucklepin_state user(void) {
+static struct knucklepin_state user(void)
+{
     struct knucklepin_state state = {.pc = 0x8000, .status = KNUCKLEPIN_MODE_USR, .vbar = 0x1000};
     for (uint32_t n = 0; n < 31; n++) state.regs[n] = 0x100 + n;
     return state;
 }
 
-static void modes(void) {
+static void modes(void)
+{
     CHECK(knucklepin_held_in(KNUCKLEPIN_MODE_USR, 7) == 7);
     CHECK(knucklepin_held_in(KNUCKLEPIN_MODE_SYS, 14) == 14);
     CHECK(knucklepin_held_in(KNUCKLEPIN_MODE_IRQ, 13) == 17);
@@ -325,12 +344,14 @@ static void modes(void) {
 }
 
 static bool refused_injection(const struct knucklepin_state *before, uint32_t injection, uint32_t fault, uint32_t level, uint64_t address,
-                              uint32_t domain, uint32_t number) {
+                              uint32_t domain, uint32_t number)
+{
     struct knucklepin_state state = *before;
     return knucklepin_inject(&state, injection, fault, level, address, 1, domain) == number && SAME(state, *before);
 }
 
-static void injections(void) {
+static void injections(void)
+{
     struct knucklepin_state state = user(), expected = user();
 
     /* Undefined, PC at the instruction, and the return. */
@@ -412,12 +433,14 @@ static void injections(void) {
     CHECK(refused_injection(&state, KNUCKLEPIN_PREFETCH_ABORT, KNUCKLEPIN_FAULT_ALIGNMENT, 0, 0, 0, KNUCKLEPIN_UNWRITABLE_FAULT));
     CHECK(refused_injection(&state, KNUCKLEPIN_DATA_ABORT, KNUCKLEPIN_FAULT_PERMISSION, 1, UINT64_MAX, 16, KNUCKLEPIN_WIDE_DOMAIN));
     CHECK(refused_injection(&state, KNUCKLEPIN_DATA_ABORT, KNUCKLEPIN_FAULT_PERMISSION, 1, 0, 0x100, KNUCKLEPIN_WIDE_DOMAIN));
-    CHECK(refused_injection(&state, KNUCKLEPIN_DATA_ABORT, KNUCKLEPIN_FAULT_PERMISSION, 1, UINT64_C(0x100000000), 15, KNUCKLEPIN_WIDE_ADDRESS));
+    CHECK(refused_injection(&state, KNUCKLEPIN_DATA_ABORT, KNUCKLEPIN_FAULT_PERMISSION, 1, UINT64_C(0x100000000), 15,
+                            KNUCKLEPIN_WIDE_ADDRESS));
     CHECK(knucklepin_injection_correction(&state, 5) == 0);
     CHECK(knucklepin_injection_correction(&state, 0xffffffff) == 0);
 }
 
-static void interrupts(void) {
+static void interrupts(void)
+{
     struct knucklepin_state state = user(), expected = user();
 
     /* IRQ and then FIQ; raised again it keeps its place; the abort comes third. */
@@ -484,7 +507,8 @@ static void interrupts(void) {
 
 /* ---- going on from a trap */
 
-static void going_on(void) {
+static void going_on(void)
+{
     struct knucklepin_state state = user(), expected = user();
     struct knucklepin_record record = record_of(0x07e00001);
     struct knucklepin_pair pair;
@@ -562,7 +586,8 @@ static void going_on(void) {
 
 /* ---- A32 loads and stores */
 
-static void a32(void) {
+static void a32(void)
+{
     struct knucklepin_state state = user(), expected = user();
     struct knucklepin_access access;
     struct knucklepin_list registers, values, addresses, given;
@@ -592,8 +617,17 @@ static void a32(void) {
     UNWRITTEN(access);
     UNWRITTEN(registers);
     CHECK(knucklepin_a32_describe(&state, 0xe8b1000c, &access, &registers) == 0);
-    const struct knucklepin_access ldm = {
-        .form = KNUCKLEPIN_LDM, .cond = 0xe, .u = 1, .w = 1, .rn = 1, .list = 0xc, .load = 1, .sas = 2, .count = 2, .address = 0x101, .change = 8};
+    const struct knucklepin_access ldm = {.form = KNUCKLEPIN_LDM,
+                                          .cond = 0xe,
+                                          .u = 1,
+                                          .w = 1,
+                                          .rn = 1,
+                                          .list = 0xc,
+                                          .load = 1,
+                                          .sas = 2,
+                                          .count = 2,
+                                          .address = 0x101,
+                                          .change = 8};
     const struct knucklepin_list registers_2_3 = {{2, 3}};
     CHECK(SAME(access, ldm) && SAME(registers, registers_2_3));
     UNWRITTEN(transfer);
@@ -613,8 +647,16 @@ static void a32(void) {
     UNWRITTEN(access);
     UNWRITTEN(registers);
     CHECK(knucklepin_a32_describe(&state, 0xe92d4010, &access, &registers) == 0);
-    const struct knucklepin_access stm = {.form = KNUCKLEPIN_STM, .cond = 0xe, .p = 1, .w = 1, .rn = 13, .list = 0x4010, .sas = 2,
-                                          .count = 2, .address = 0x105, .change = 0xfffffff8};
+    const struct knucklepin_access stm = {.form = KNUCKLEPIN_STM,
+                                          .cond = 0xe,
+                                          .p = 1,
+                                          .w = 1,
+                                          .rn = 13,
+                                          .list = 0x4010,
+                                          .sas = 2,
+                                          .count = 2,
+                                          .address = 0x105,
+                                          .change = 0xfffffff8};
     const struct knucklepin_list registers_4_14 = {{4, 14}};
     CHECK(SAME(access, stm) && SAME(registers, registers_4_14));
     UNWRITTEN(transfer);
@@ -658,7 +700,8 @@ static void a32(void) {
 
 /* ---- logs */
 
-static void logs(void) {
+static void logs(void)
+{
     /* README's log: editions 0 and 1, one trap, one injection with domain 7. */
     const uint8_t bytes[45] = "\2\0\0\0\0\1\1\0\0\0\30\0\0\222\0\0\0\0\1\0\0\0\274\212\0\0\0\0\0\0\100\43\1\0\0\0\0\0\1\0\0\0\4\7";
     const uint8_t editions[] = {0, 1};
@@ -684,7 +727,8 @@ static void logs(void) {
     knucklepin_log_look(bytes, 44, 0, 1, &entry);
     CHECK(entry.whole == 1 && entry.count == 2 && entry.entry == KNUCKLEPIN_ENTRY_EDITION && entry.first == 1 && entry.second == 0);
     knucklepin_log_look(bytes, 44, 1, 0, &entry);
-    CHECK(entry.whole == 1 && entry.count == 1 && entry.entry == KNUCKLEPIN_ENTRY_SYNDROME && entry.first == 0x92000018 && entry.second == 0);
+    CHECK(entry.whole == 1 && entry.count == 1 && entry.entry == KNUCKLEPIN_ENTRY_SYNDROME && entry.first == 0x92000018 &&
+          entry.second == 0);
     knucklepin_log_look(bytes, 44, 2, 0, &entry);
     CHECK(entry.entry == KNUCKLEPIN_ENTRY_ADDRESS && entry.first == 0x8abc && entry.second == 0x12340);
     knucklepin_log_look(bytes, 44, 3, 0, &entry);
@@ -711,7 +755,8 @@ static void logs(void) {
     CHECK(knucklepin_log_write(editions, 0, syndromes, 0, fars, 0, hpfars, 0, injected, 0, buffer, 16, &length) == 0 && length == 16);
 }
 
-int main(void) {
+int main(void)
+{
     words();
     short_words();
     traps();

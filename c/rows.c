@@ -23,7 +23,8 @@ struct reply {
     uint64_t number[ANSWERS];
 };
 
-static int digit(char c) {
+static int digit(char c)
+{
     if (c >= '0' && c <= '9') return c - '0';
     if (c >= 'a' && c <= 'f') return c - 'a' + 10;
     if (c >= 'A' && c <= 'F') return c - 'A' + 10;
@@ -31,7 +32,8 @@ static int digit(char c) {
 }
 
 /* The numbers of a line after its word, each after one space. */
-static bool numbers(struct row *row, const char *line, size_t length) {
+static bool numbers(struct row *row, const char *line, size_t length)
+{
     size_t at = 0;
     row->count = 0;
     while (at < length) {
@@ -51,7 +53,8 @@ static bool numbers(struct row *row, const char *line, size_t length) {
 }
 
 /* The largest number of a kind: a flag (f), one of ten transfers (t), 8 bits (b), 32 bits (w), 64 bits (d). */
-static uint64_t largest(char kind) {
+static uint64_t largest(char kind)
+{
     switch (kind) {
     case 'f': return 1;
     case 't': return 9;
@@ -63,26 +66,33 @@ static uint64_t largest(char kind) {
 }
 
 /* Whether a row has the numbers of a shape from a place on. */
-static bool begins(const struct row *row, size_t from, const char *shape) {
+static bool begins(const struct row *row, size_t from, const char *shape)
+{
     for (size_t i = 0; shape[i] != '\0'; i++) {
         if (from + i >= row->count || row->number[from + i] > largest(shape[i])) return false;
     }
     return true;
 }
 
-static bool shaped(const struct row *row, size_t from, const char *shape) {
+static bool shaped(const struct row *row, size_t from, const char *shape)
+{
     return begins(row, from, shape) && row->count == from + strlen(shape);
 }
 
-static uint32_t word(const struct row *row, size_t at) { return (uint32_t)row->number[at]; }
+static uint32_t word(const struct row *row, size_t at)
+{
+    return (uint32_t)row->number[at];
+}
 
-static void with(struct reply *reply, uint64_t number) {
+static void with(struct reply *reply, uint64_t number)
+{
     if (reply->count == ANSWERS) abort();
     reply->number[reply->count++] = number;
 }
 
 /* A place that must hold zeros: a number that no answer has stands in the reply where it doesn't. */
-static void with_zeros(struct reply *reply, const void *place, size_t size) {
+static void with_zeros(struct reply *reply, const void *place, size_t size)
+{
     const unsigned char *byte = place;
     for (size_t i = 0; i < size; i++) {
         if (byte[i] != 0) {
@@ -96,14 +106,16 @@ static void with_zeros(struct reply *reply, const void *place, size_t size) {
 #define UNWRITTEN(place) memset(&(place), 0xa5, sizeof(place))
 
 /* A refusal, and after it what the call wrote, which must be zeros. */
-static void with_refusal(struct reply *reply, uint32_t number, const struct knucklepin_editions *editions, const void *place, size_t size) {
+static void with_refusal(struct reply *reply, uint32_t number, const struct knucklepin_editions *editions, const void *place, size_t size)
+{
     with(reply, number);
     with(reply, editions->mask);
     with(reply, editions->count);
     with_zeros(reply, place, size);
 }
 
-static void with_number(struct reply *reply, uint32_t number, const void *place, size_t size) {
+static void with_number(struct reply *reply, uint32_t number, const void *place, size_t size)
+{
     const struct knucklepin_editions none = {0, 0};
     with_refusal(reply, number, &none, place, size);
 }
@@ -111,12 +123,13 @@ static void with_number(struct reply *reply, uint32_t number, const void *place,
 /* ---- records and states in rows */
 
 /* The fields of each kind, by the largest number that a row may have there. */
-static const char *const LONG[] = {"wf",  "ffwf",   "wffwwwwwwf",     "wffwwwwwf", "ffwwwfwf", "ffw",  "wfw",     "ffwf",
-                                   "fwfffw", "ffwfwffwfffffw", "wf",        "fff",      "fff",  "fwfw", "fwwwwwwf"};
+static const char *const LONG[] = {"wf",     "ffwf",           "wffwwwwwwf", "wffwwwwwf", "ffwwwfwf", "ffw",  "wfw",     "ffwf",
+                                   "fwfffw", "ffwfwffwfffffw", "wf",         "fff",       "fff",      "fwfw", "fwwwwwwf"};
 static const char *const SHORT[] = {"wf", "ffwf", "wffwwwwwwf", "wffwwwwwf", "ffwwwfwf", "ffwfw", "wfw", "ffwf", "ffffw", "ffwfwfwffffw"};
 enum { LONG_KINDS = sizeof LONG / sizeof *LONG, SHORT_KINDS = sizeof SHORT / sizeof *SHORT };
 
-static bool words_of(const struct row *row, size_t from, const char *const *kinds, size_t count, uint32_t *kind, uint32_t *fields) {
+static bool words_of(const struct row *row, size_t from, const char *const *kinds, size_t count, uint32_t *kind, uint32_t *fields)
+{
     if (from >= row->count || row->number[from] >= count) return false;
     const char *shape = kinds[row->number[from]];
     if (!shaped(row, from + 1, shape)) return false;
@@ -125,32 +138,41 @@ static bool words_of(const struct row *row, size_t from, const char *const *kind
     return true;
 }
 
-static bool record_of(const struct row *row, size_t from, struct knucklepin_record *record) {
+static bool record_of(const struct row *row, size_t from, struct knucklepin_record *record)
+{
     return words_of(row, from, LONG, LONG_KINDS, &record->kind, record->fields);
 }
 
-static bool short_record_of(const struct row *row, size_t from, struct knucklepin_short_record *record) {
+static bool short_record_of(const struct row *row, size_t from, struct knucklepin_short_record *record)
+{
     return words_of(row, from, SHORT, SHORT_KINDS, &record->kind, record->fields);
 }
 
-static void with_words(struct reply *reply, const char *const *kinds, size_t count, uint32_t kind, const uint32_t *fields) {
+static void with_words(struct reply *reply, const char *const *kinds, size_t count, uint32_t kind, const uint32_t *fields)
+{
     with(reply, kind);
     size_t length = kind < count ? strlen(kinds[kind]) : 0;
     for (size_t i = 0; i < length; i++) with(reply, fields[i]);
     with_zeros(reply, fields + length, (15 - length) * sizeof *fields);
 }
 
-static void with_record(struct reply *reply, const struct knucklepin_record *record) {
+static void with_record(struct reply *reply, const struct knucklepin_record *record)
+{
     with_words(reply, LONG, LONG_KINDS, record->kind, record->fields);
 }
 
-static void with_short_record(struct reply *reply, const struct knucklepin_short_record *record) {
+static void with_short_record(struct reply *reply, const struct knucklepin_short_record *record)
+{
     with_words(reply, SHORT, SHORT_KINDS, record->kind, record->fields);
 }
 
-static bool is_state(const struct row *row, size_t from) { return begins(row, from, "wwwwwwwwwwwwwwwwwwwwwwwwwwwwwwwwwwwwwwwwwwwwwfff"); }
+static bool is_state(const struct row *row, size_t from)
+{
+    return begins(row, from, "wwwwwwwwwwwwwwwwwwwwwwwwwwwwwwwwwwwwwwwwwwwwwfff");
+}
 
-static struct knucklepin_state state_of(const struct row *row, size_t from) {
+static struct knucklepin_state state_of(const struct row *row, size_t from)
+{
     uint32_t words[STATE];
     for (size_t i = 0; i < STATE; i++) words[i] = word(row, from + i);
     struct knucklepin_state state;
@@ -159,7 +181,8 @@ static struct knucklepin_state state_of(const struct row *row, size_t from) {
 }
 
 /* What a call changed in the state that stands in a row, which then holds the state after it. */
-static void with_changes(struct reply *reply, struct row *row, size_t from, const struct knucklepin_state *after) {
+static void with_changes(struct reply *reply, struct row *row, size_t from, const struct knucklepin_state *after)
+{
     uint32_t words[STATE];
     memcpy(words, after, sizeof words);
     for (size_t i = 0; i < STATE; i++) {
@@ -173,7 +196,8 @@ static void with_changes(struct reply *reply, struct row *row, size_t from, cons
 
 /* ---- words and whole traps */
 
-static bool read_row(struct row *row, struct reply *reply) {
+static bool read_row(struct row *row, struct reply *reply)
+{
     if (!shaped(row, 0, "fwd")) return false;
     struct knucklepin_record record;
     struct knucklepin_editions editions;
@@ -193,7 +217,8 @@ static bool read_row(struct row *row, struct reply *reply) {
 
 /* The answer to writing, and the word. */
 static uint32_t written(struct reply *reply, uint32_t origin, uint32_t edition, const struct knucklepin_record *record,
-                        struct knucklepin_esr *esr) {
+                        struct knucklepin_esr *esr)
+{
     struct knucklepin_editions editions;
     UNWRITTEN(*esr);
     UNWRITTEN(editions);
@@ -207,7 +232,8 @@ static uint32_t written(struct reply *reply, uint32_t origin, uint32_t edition, 
     return number;
 }
 
-static bool write_row(struct row *row, struct reply *reply) {
+static bool write_row(struct row *row, struct reply *reply)
+{
     struct knucklepin_record record;
     struct knucklepin_esr esr;
     if (!begins(row, 0, "fw") || !record_of(row, 2, &record)) return false;
@@ -215,7 +241,8 @@ static bool write_row(struct row *row, struct reply *reply) {
     return true;
 }
 
-static bool carry_row(struct row *row, struct reply *reply) {
+static bool carry_row(struct row *row, struct reply *reply)
+{
     struct knucklepin_record record;
     struct knucklepin_esr esr;
     if (!begins(row, 0, "fww") || !record_of(row, 3, &record)) return false;
@@ -224,7 +251,8 @@ static bool carry_row(struct row *row, struct reply *reply) {
     return read_row(&next, reply);
 }
 
-static bool again_row(struct row *row, struct reply *reply) {
+static bool again_row(struct row *row, struct reply *reply)
+{
     if (!shaped(row, 0, "fwd")) return false;
     struct knucklepin_record record;
     struct knucklepin_editions editions;
@@ -241,7 +269,8 @@ static bool again_row(struct row *row, struct reply *reply) {
 }
 
 /* The answer to reading a whole trap: whether it is shown. */
-static bool trapped(struct reply *reply, uint32_t origin, uint32_t edition, const uint64_t *registers) {
+static bool trapped(struct reply *reply, uint32_t origin, uint32_t edition, const uint64_t *registers)
+{
     struct knucklepin_trap trap;
     struct knucklepin_editions editions;
     UNWRITTEN(trap);
@@ -261,11 +290,15 @@ static bool trapped(struct reply *reply, uint32_t origin, uint32_t edition, cons
     const struct knucklepin_addresses addresses = trap.addresses;
     with_record(reply, &trap.syndrome);
     with(reply, known.virtual_known);
-    if (known.virtual_known != 0) with(reply, addresses.virtual_address);
-    else with_zeros(reply, &addresses.virtual_address, sizeof addresses.virtual_address);
+    if (known.virtual_known != 0)
+        with(reply, addresses.virtual_address);
+    else
+        with_zeros(reply, &addresses.virtual_address, sizeof addresses.virtual_address);
     with(reply, known.intermediate_known);
-    if (known.intermediate_known != KNUCKLEPIN_NO_ADDRESS) with(reply, addresses.intermediate_address);
-    else with_zeros(reply, &addresses.intermediate_address, sizeof addresses.intermediate_address);
+    if (known.intermediate_known != KNUCKLEPIN_NO_ADDRESS)
+        with(reply, addresses.intermediate_address);
+    else
+        with_zeros(reply, &addresses.intermediate_address, sizeof addresses.intermediate_address);
     with_zeros(reply, &editions, sizeof editions);
     /* The sort goes by the record's kind and class. */
     uint32_t kind = trap.syndrome.kind;
@@ -276,21 +309,24 @@ static bool trapped(struct reply *reply, uint32_t origin, uint32_t edition, cons
     return true;
 }
 
-static bool trap_row(struct row *row, struct reply *reply) {
+static bool trap_row(struct row *row, struct reply *reply)
+{
     if (!shaped(row, 0, "fwddd")) return false;
     with(reply, 0);
     trapped(reply, word(row, 0), word(row, 1), row->number + 2);
     return true;
 }
 
-static bool both_row(struct row *row, struct reply *reply) {
+static bool both_row(struct row *row, struct reply *reply)
+{
     if (!shaped(row, 0, "fwwddd")) return false;
     with(reply, 0);
     if (trapped(reply, word(row, 0), word(row, 1), row->number + 3)) trapped(reply, word(row, 0), word(row, 2), row->number + 3);
     return true;
 }
 
-static bool hread_row(struct row *row, struct reply *reply) {
+static bool hread_row(struct row *row, struct reply *reply)
+{
     if (!shaped(row, 0, "ww")) return false;
     struct knucklepin_short_record record;
     struct knucklepin_editions editions;
@@ -308,7 +344,9 @@ static bool hread_row(struct row *row, struct reply *reply) {
     return true;
 }
 
-static uint32_t short_written(struct reply *reply, uint32_t edition, const struct knucklepin_short_record *record, struct knucklepin_hsr *hsr) {
+static uint32_t short_written(struct reply *reply, uint32_t edition, const struct knucklepin_short_record *record,
+                              struct knucklepin_hsr *hsr)
+{
     struct knucklepin_editions editions;
     UNWRITTEN(*hsr);
     UNWRITTEN(editions);
@@ -322,7 +360,8 @@ static uint32_t short_written(struct reply *reply, uint32_t edition, const struc
     return number;
 }
 
-static bool hwrite_row(struct row *row, struct reply *reply) {
+static bool hwrite_row(struct row *row, struct reply *reply)
+{
     struct knucklepin_short_record record;
     struct knucklepin_hsr hsr;
     if (!begins(row, 0, "w") || !short_record_of(row, 1, &record)) return false;
@@ -330,7 +369,8 @@ static bool hwrite_row(struct row *row, struct reply *reply) {
     return true;
 }
 
-static bool hcarry_row(struct row *row, struct reply *reply) {
+static bool hcarry_row(struct row *row, struct reply *reply)
+{
     struct knucklepin_short_record record;
     struct knucklepin_hsr hsr;
     if (!begins(row, 0, "ww") || !short_record_of(row, 2, &record)) return false;
@@ -339,7 +379,8 @@ static bool hcarry_row(struct row *row, struct reply *reply) {
     return hread_row(&next, reply);
 }
 
-static bool hagain_row(struct row *row, struct reply *reply) {
+static bool hagain_row(struct row *row, struct reply *reply)
+{
     if (!shaped(row, 0, "ww")) return false;
     struct knucklepin_short_record record;
     struct knucklepin_editions editions;
@@ -355,7 +396,8 @@ static bool hagain_row(struct row *row, struct reply *reply) {
     return true;
 }
 
-static bool widen_row(struct row *row, struct reply *reply) {
+static bool widen_row(struct row *row, struct reply *reply)
+{
     struct knucklepin_short_record from;
     struct knucklepin_record to;
     if (!begins(row, 0, "w") || !short_record_of(row, 1, &from)) return false;
@@ -373,7 +415,8 @@ static bool widen_row(struct row *row, struct reply *reply) {
 /* ---- guest states */
 
 /* The injection that stands in six numbers, as a row may have one. */
-static bool is_injection(const struct row *row, size_t from) {
+static bool is_injection(const struct row *row, size_t from)
+{
     if (!begins(row, from, "b") || row->number[from] > 4) return false;
     if (row->number[from] < 3) return begins(row, from, "b00000");
     if (!begins(row, from, row->number[from] == 3 ? "bbbd00" : "bbbdfb") || row->number[from + 1] > 4) return false;
@@ -381,12 +424,14 @@ static bool is_injection(const struct row *row, size_t from) {
     return levels || row->number[from + 2] == 0;
 }
 
-static uint32_t inject(const struct row *row, size_t from, struct knucklepin_state *state) {
+static uint32_t inject(const struct row *row, size_t from, struct knucklepin_state *state)
+{
     return knucklepin_inject(state, word(row, from), word(row, from + 1), word(row, from + 2), row->number[from + 3], word(row, from + 4),
                              word(row, from + 5));
 }
 
-static bool inject_row(struct row *row, struct reply *reply) {
+static bool inject_row(struct row *row, struct reply *reply)
+{
     if (!is_injection(row, 0) || !is_state(row, 6) || row->count != 6 + STATE) return false;
     struct knucklepin_state state = state_of(row, 6);
     with(reply, inject(row, 0, &state));
@@ -394,7 +439,8 @@ static bool inject_row(struct row *row, struct reply *reply) {
     return true;
 }
 
-static bool held_row(struct row *row, struct reply *reply) {
+static bool held_row(struct row *row, struct reply *reply)
+{
     if (!shaped(row, 0, "ww")) return false;
     uint32_t number = knucklepin_held_in(word(row, 0), word(row, 1));
     with(reply, number != KNUCKLEPIN_NOWHERE);
@@ -402,7 +448,8 @@ static bool held_row(struct row *row, struct reply *reply) {
     return true;
 }
 
-static bool spsr_row(struct row *row, struct reply *reply) {
+static bool spsr_row(struct row *row, struct reply *reply)
+{
     if (!shaped(row, 0, "fffw")) return false;
     uint32_t status;
     UNWRITTEN(status);
@@ -416,7 +463,8 @@ static bool spsr_row(struct row *row, struct reply *reply) {
     return true;
 }
 
-static bool finish_row(struct row *row, struct reply *reply) {
+static bool finish_row(struct row *row, struct reply *reply)
+{
     struct knucklepin_record record;
     if (!begins(row, 0, "w") || !is_state(row, 1) || !record_of(row, 1 + STATE, &record)) return false;
     struct knucklepin_state state = state_of(row, 1);
@@ -437,14 +485,16 @@ static bool finish_row(struct row *row, struct reply *reply) {
 /* ---- runs */
 
 /* A correction modulo 2^32 as a sign and a size. */
-static void with_correction(struct reply *reply, uint32_t correction) {
+static void with_correction(struct reply *reply, uint32_t correction)
+{
     bool minus = correction > 0x7fffffff;
     with(reply, minus);
     with(reply, minus ? 0 - correction : correction);
 }
 
 /* The calls of a run are made on the state in the row's first 48 numbers. */
-static bool run_row(struct row *row, struct reply *reply) {
+static bool run_row(struct row *row, struct reply *reply)
+{
     if (!is_state(row, 0) || row->count == STATE) return false;
     uint32_t queue = KNUCKLEPIN_EMPTY;
     size_t at = STATE;
@@ -498,7 +548,8 @@ static bool run_row(struct row *row, struct reply *reply) {
 /* ---- A32 loads and stores */
 
 /* The fields of a load or store, and that those which its form lacks are 0. */
-static void with_fields(struct reply *reply, const struct knucklepin_access *a) {
+static void with_fields(struct reply *reply, const struct knucklepin_access *a)
+{
     uint32_t address = a->form / 16, transfer = a->form % 16;
     with(reply, address);
     with(reply, transfer);
@@ -528,7 +579,8 @@ static void with_fields(struct reply *reply, const struct knucklepin_access *a) 
 }
 
 /* How wide the transfer is, its direction and its sign, by the form. */
-static void with_transfer(struct reply *reply, const struct knucklepin_access *a) {
+static void with_transfer(struct reply *reply, const struct knucklepin_access *a)
+{
     static const uint32_t LOADS[] = {1, 0, 1, 0, 1, 0, 1, 1, 1, 0}, SAS[] = {2, 2, 0, 0, 1, 1, 0, 1, 2, 2},
                           SSE[] = {0, 0, 0, 0, 0, 0, 1, 1, 0, 0};
     uint32_t transfer = a->form % 16;
@@ -537,7 +589,8 @@ static void with_transfer(struct reply *reply, const struct knucklepin_access *a
     if (a->load != load || a->sas != sas || a->sse != sse) with(reply, UINT64_MAX);
 }
 
-static bool decode_row(struct row *row, struct reply *reply) {
+static bool decode_row(struct row *row, struct reply *reply)
+{
     if (!shaped(row, 0, "w")) return false;
     struct knucklepin_state state = {.status = KNUCKLEPIN_MODE_USR};
     struct knucklepin_access access;
@@ -559,7 +612,8 @@ static bool decode_row(struct row *row, struct reply *reply) {
     return true;
 }
 
-static bool access_row(struct row *row, struct reply *reply) {
+static bool access_row(struct row *row, struct reply *reply)
+{
     if (!begins(row, 0, "w") || !is_state(row, 1) || row->count != 1 + STATE) return false;
     struct knucklepin_state state = state_of(row, 1);
     struct knucklepin_access access;
@@ -591,17 +645,18 @@ static const struct call {
     const char *program, *word;
     bool (*answer)(struct row *, struct reply *);
 } CALLS[] = {
-    {"check_words", "read", read_row},       {"check_words", "write", write_row},   {"check_words", "carry", carry_row},
-    {"check_words", "again", again_row},     {"check_words", "trap", trap_row},     {"check_words", "both", both_row},
-    {"check_words", "hread", hread_row},     {"check_words", "hwrite", hwrite_row}, {"check_words", "hcarry", hcarry_row},
-    {"check_words", "hagain", hagain_row},   {"check_words", "widen", widen_row},   {"check_states", "inject", inject_row},
-    {"check_states", "lent", inject_row},    {"check_states", "held", held_row},    {"check_states", "spsr", spsr_row},
-    {"check_states", "finish", finish_row},  {"check_states", "finlent", finish_row}, {"check_runs", "run", run_row},
-    {"check_runs", "runlent", run_row},      {"check_a32", "decode", decode_row},   {"check_a32", "access", access_row},
+    {"check_words", "read", read_row},      {"check_words", "write", write_row},     {"check_words", "carry", carry_row},
+    {"check_words", "again", again_row},    {"check_words", "trap", trap_row},       {"check_words", "both", both_row},
+    {"check_words", "hread", hread_row},    {"check_words", "hwrite", hwrite_row},   {"check_words", "hcarry", hcarry_row},
+    {"check_words", "hagain", hagain_row},  {"check_words", "widen", widen_row},     {"check_states", "inject", inject_row},
+    {"check_states", "lent", inject_row},   {"check_states", "held", held_row},      {"check_states", "spsr", spsr_row},
+    {"check_states", "finish", finish_row}, {"check_states", "finlent", finish_row}, {"check_runs", "run", run_row},
+    {"check_runs", "runlent", run_row},     {"check_a32", "decode", decode_row},     {"check_a32", "access", access_row},
     {"check_a32", "encode", NULL},
 };
 
-static const struct call *call_of(const char *program, const char *line, size_t letters) {
+static const struct call *call_of(const char *program, const char *line, size_t letters)
+{
     for (size_t i = 0; i < sizeof CALLS / sizeof *CALLS; i++) {
         const struct call *call = &CALLS[i];
         if (strcmp(call->program, program) == 0 && strlen(call->word) == letters && memcmp(call->word, line, letters) == 0) return call;
@@ -610,7 +665,8 @@ static const struct call *call_of(const char *program, const char *line, size_t 
 }
 
 /* The text of a reply. */
-static size_t text_of(const struct reply *reply, bool is_row, char *text, size_t size) {
+static size_t text_of(const struct reply *reply, bool is_row, char *text, size_t size)
+{
     if (!is_row) return (size_t)snprintf(text, size, "no row");
     size_t length = 0;
     for (size_t i = 0; i < reply->count; i++) {
@@ -624,7 +680,8 @@ struct text {
     size_t length, at;
 };
 
-static struct text contents(const char *folder, const char *name) {
+static struct text contents(const char *folder, const char *name)
+{
     char path[4096];
     struct text text = {NULL, 0, 0};
     if ((size_t)snprintf(path, sizeof path, "%s/%s", folder, name) >= sizeof path) exit(2);
@@ -645,7 +702,8 @@ static struct text contents(const char *folder, const char *name) {
 }
 
 /* The next line, and its length without the newline. */
-static char *next_line(struct text *text, size_t *length) {
+static char *next_line(struct text *text, size_t *length)
+{
     char *line = text->bytes + text->at;
     char *end = memchr(line, '\n', text->length - text->at);
     *length = end != NULL ? (size_t)(end - line) : text->length - text->at;
@@ -653,7 +711,8 @@ static char *next_line(struct text *text, size_t *length) {
     return line;
 }
 
-static unsigned long compare(const char *folder) {
+static unsigned long compare(const char *folder)
+{
     const char *slash = strrchr(folder, '/');
     const char *program = slash != NULL ? slash + 1 : folder;
     struct text questions = contents(folder, "stdin"), answers = contents(folder, "stdout");
@@ -687,7 +746,8 @@ static unsigned long compare(const char *folder) {
     return differences;
 }
 
-int main(int count, char **folders) {
+int main(int count, char **folders)
+{
     unsigned long differences = 0;
     for (int i = 1; i < count; i++) differences += compare(folders[i]);
     return differences != 0;

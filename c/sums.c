@@ -13,19 +13,29 @@
 
 static uint64_t seed;
 
-static uint64_t any(void) {
+static uint64_t any(void)
+{
     uint64_t z = seed += UINT64_C(0x9e3779b97f4a7c15);
     z = (z ^ z >> 30) * UINT64_C(0xbf58476d1ce4e5b9);
     z = (z ^ z >> 27) * UINT64_C(0x94d049bb133111eb);
     return z ^ z >> 31;
 }
 
-static uint32_t any32(void) { return (uint32_t)any(); }
+static uint32_t any32(void)
+{
+    return (uint32_t)any();
+}
 
-static uint32_t below(uint32_t n) { return (uint32_t)(any() >> 32) % n; }
+static uint32_t below(uint32_t n)
+{
+    return (uint32_t)(any() >> 32) % n;
+}
 
 /* Once in n times. */
-static bool seldom(uint32_t n) { return below(n) == 0; }
+static bool seldom(uint32_t n)
+{
+    return below(n) == 0;
+}
 
 /* ---- the sum */
 
@@ -33,14 +43,16 @@ struct sum {
     uint64_t taken, sum;
 };
 
-static void add(struct sum *sum, const void *place, size_t size) {
+static void add(struct sum *sum, const void *place, size_t size)
+{
     const unsigned char *byte = place;
     for (size_t i = 0; i < size; i++) sum->sum = (sum->sum ^ byte[i]) * UINT64_C(0x100000001b3);
 }
 
 #define ADD(sum, place) add(sum, &(place), sizeof(place))
 
-static void answered(struct sum *sum, uint32_t number) {
+static void answered(struct sum *sum, uint32_t number)
+{
     sum->taken += number == KNUCKLEPIN_TAKEN;
     ADD(sum, number);
 }
@@ -48,12 +60,13 @@ static void answered(struct sum *sum, uint32_t number) {
 /* ---- questions */
 
 /* A word of each class and of either form and origin, of which bits are turned over. */
-static uint32_t syndrome(void) {
-    static const uint32_t WORDS[] = {0x02000000, 0x07e00001, 0x0fe00001, 0x13e01480, 0x17e00060, 0x1be00001, 0x1fe00000, 0x23ee0001,
-                                     0x33e01481, 0x3a000000, 0x46000011, 0x4a000001, 0x4e000000, 0x4fe80000, 0x56000000, 0x5a000001,
-                                     0x5e000000, 0x62300421, 0x82000005, 0x8a000000, 0x92000005, 0x93830045, 0x93220005, 0x92001010,
-                                     0x92000018, 0xbe000000, 0xbe000011, 0xc2000022, 0xca000022, 0xcb000022, 0xd2000022, 0xe2000001,
-                                     0xea000022, 0x93c2c047};
+static uint32_t syndrome(void)
+{
+    static const uint32_t WORDS[] = {0x02000000, 0x07e00001, 0x0fe00001, 0x13e01480, 0x17e00060, 0x1be00001, 0x1fe00000,
+                                     0x23ee0001, 0x33e01481, 0x3a000000, 0x46000011, 0x4a000001, 0x4e000000, 0x4fe80000,
+                                     0x56000000, 0x5a000001, 0x5e000000, 0x62300421, 0x82000005, 0x8a000000, 0x92000005,
+                                     0x93830045, 0x93220005, 0x92001010, 0x92000018, 0xbe000000, 0xbe000011, 0xc2000022,
+                                     0xca000022, 0xcb000022, 0xd2000022, 0xe2000001, 0xea000022, 0x93c2c047};
     uint32_t word = WORDS[below(sizeof WORDS / sizeof *WORDS)];
     if (seldom(8)) word = any32();
     if (seldom(2)) word = (word & ~UINT32_C(0x3f)) | below(64);
@@ -61,21 +74,32 @@ static uint32_t syndrome(void) {
     return word;
 }
 
-static uint64_t wide_syndrome(void) {
+static uint64_t wide_syndrome(void)
+{
     uint64_t word = syndrome();
     if (seldom(64)) word |= any() << 32;
     return word;
 }
 
 /* A number below n, or any. */
-static uint32_t mostly_below(uint32_t n) { return seldom(32) ? any32() : below(n); }
+static uint32_t mostly_below(uint32_t n)
+{
+    return seldom(32) ? any32() : below(n);
+}
 
-static uint32_t edition(void) { return mostly_below(17); }
+static uint32_t edition(void)
+{
+    return mostly_below(17);
+}
 
-static uint32_t short_edition(void) { return mostly_below(3); }
+static uint32_t short_edition(void)
+{
+    return mostly_below(3);
+}
 
 /* Some word of a record is another. */
-static void changed(uint32_t *kind, uint32_t *fields) {
+static void changed(uint32_t *kind, uint32_t *fields)
+{
     if (seldom(4)) {
         uint32_t place = below(15);
         fields[place] = mostly_below(33);
@@ -83,7 +107,8 @@ static void changed(uint32_t *kind, uint32_t *fields) {
     if (seldom(32)) *kind = mostly_below(16);
 }
 
-static struct knucklepin_record record(uint32_t origin) {
+static struct knucklepin_record record(uint32_t origin)
+{
     struct knucklepin_record record;
     struct knucklepin_editions editions;
     uint32_t number;
@@ -95,7 +120,8 @@ static struct knucklepin_record record(uint32_t origin) {
     return record;
 }
 
-static struct knucklepin_short_record short_record(void) {
+static struct knucklepin_short_record short_record(void)
+{
     struct knucklepin_short_record record;
     struct knucklepin_editions editions;
     uint32_t number;
@@ -107,18 +133,21 @@ static struct knucklepin_short_record short_record(void) {
     return record;
 }
 
-static uint32_t mode(void) {
+static uint32_t mode(void)
+{
     static const uint32_t MODES[] = {0x10, 0x11, 0x12, 0x13, 0x17, 0x1b, 0x1f};
     return seldom(16) ? below(32) : MODES[below(7)];
 }
 
-static uint32_t status(void) {
+static uint32_t status(void)
+{
     uint32_t word = any32();
     if (!seldom(16)) word &= 0xfe1fffe0;
     return (word & ~UINT32_C(31)) | mode();
 }
 
-static struct knucklepin_state state(void) {
+static struct knucklepin_state state(void)
+{
     uint32_t words[48];
     for (size_t i = 0; i < 48; i++) words[i] = any32();
     struct knucklepin_state state;
@@ -137,9 +166,10 @@ static struct knucklepin_state state(void) {
 }
 
 /* A word of the A32 encodings among which loads and stores are, or any. */
-static uint32_t instruction(void) {
-    static const uint32_t WORDS[] = {0xe5912004, 0xe7912003, 0xe59f2008, 0xe8b1000c, 0xe92d4010, 0xe1d120b4, 0xe1c120b4, 0xe19120d3,
-                                     0xe1c120d8, 0xe1c120f8, 0xe5c12001, 0xe0112093, 0xe49d2004};
+static uint32_t instruction(void)
+{
+    static const uint32_t WORDS[] = {0xe5912004, 0xe7912003, 0xe59f2008, 0xe8b1000c, 0xe92d4010, 0xe1d120b4, 0xe1c120b4,
+                                     0xe19120d3, 0xe1c120d8, 0xe1c120f8, 0xe5c12001, 0xe0112093, 0xe49d2004};
     uint32_t word = WORDS[below(sizeof WORDS / sizeof *WORDS)];
     uint32_t turned = any32();
     word ^= turned & 0x01e0ffff & any32();
@@ -148,7 +178,8 @@ static uint32_t instruction(void) {
 
 /* ---- the calls */
 
-static void esr_read(struct sum *sum) {
+static void esr_read(struct sum *sum)
+{
     struct knucklepin_record record;
     struct knucklepin_editions editions;
     const struct knucklepin_esr esr = {wide_syndrome()};
@@ -158,7 +189,8 @@ static void esr_read(struct sum *sum) {
     ADD(sum, editions);
 }
 
-static void esr_write(struct sum *sum) {
+static void esr_write(struct sum *sum)
+{
     uint32_t origin = below(2);
     const struct knucklepin_record asked = record(origin);
     struct knucklepin_esr esr;
@@ -168,7 +200,8 @@ static void esr_write(struct sum *sum) {
     ADD(sum, editions);
 }
 
-static void hsr_read(struct sum *sum) {
+static void hsr_read(struct sum *sum)
+{
     struct knucklepin_short_record record;
     struct knucklepin_editions editions;
     const struct knucklepin_hsr hsr = {syndrome()};
@@ -177,7 +210,8 @@ static void hsr_read(struct sum *sum) {
     ADD(sum, editions);
 }
 
-static void hsr_write(struct sum *sum) {
+static void hsr_write(struct sum *sum)
+{
     const struct knucklepin_short_record asked = short_record();
     struct knucklepin_hsr hsr;
     struct knucklepin_editions editions;
@@ -186,14 +220,16 @@ static void hsr_write(struct sum *sum) {
     ADD(sum, editions);
 }
 
-static void widen(struct sum *sum) {
+static void widen(struct sum *sum)
+{
     const struct knucklepin_short_record asked = short_record();
     struct knucklepin_record wide;
     answered(sum, knucklepin_widen(mode(), &asked, &wide));
     ADD(sum, wide);
 }
 
-static void trap_read(struct sum *sum) {
+static void trap_read(struct sum *sum)
+{
     struct knucklepin_trap trap;
     struct knucklepin_editions editions;
     const struct knucklepin_esr esr = {wide_syndrome()};
@@ -207,21 +243,24 @@ static void trap_read(struct sum *sum) {
     ADD(sum, editions);
 }
 
-static void held_in(struct sum *sum) {
+static void held_in(struct sum *sum)
+{
     uint32_t asked = mode();
     uint32_t number = knucklepin_held_in(asked, below(17));
     sum->taken += number != KNUCKLEPIN_NOWHERE;
     ADD(sum, number);
 }
 
-static void from_spsr(struct sum *sum) {
+static void from_spsr(struct sum *sum)
+{
     uint32_t pan = below(2), ssbs = below(2), dit = below(3), spsr = status(), word;
     spsr |= below(2) << 24;
     answered(sum, knucklepin_from_spsr(pan, ssbs, dit, spsr, &word));
     ADD(sum, word);
 }
 
-static void inject(struct sum *sum) {
+static void inject(struct sum *sum)
+{
     struct knucklepin_state guest = state();
     uint32_t injection = mostly_below(5), fault = mostly_below(5), level = mostly_below(5), write = below(3), domain = mostly_below(17);
     uint64_t address = seldom(16) ? any() : any32();
@@ -231,7 +270,8 @@ static void inject(struct sum *sum) {
     ADD(sum, guest);
 }
 
-static void raise_and_deliver(struct sum *sum) {
+static void raise_and_deliver(struct sum *sum)
+{
     struct knucklepin_state guest = state();
     uint32_t correction = knucklepin_delivery_correction(&guest, mostly_below(5));
     struct knucklepin_pending pending = {seldom(4) ? any32() : 0, 0xa5a5a5a5};
@@ -242,13 +282,15 @@ static void raise_and_deliver(struct sum *sum) {
     ADD(sum, guest);
 }
 
-static void resume(struct sum *sum) {
+static void resume(struct sum *sum)
+{
     struct knucklepin_state guest = state();
     answered(sum, knucklepin_resume(&guest, seldom(4) ? any32() : 4 * below(3)));
     ADD(sum, guest);
 }
 
-static void step_over(struct sum *sum) {
+static void step_over(struct sum *sum)
+{
     const struct knucklepin_record asked = record(KNUCKLEPIN_AARCH32);
     struct knucklepin_state guest = state();
     uint32_t passes = knucklepin_passes(guest.status, &asked);
@@ -257,7 +299,8 @@ static void step_over(struct sum *sum) {
     ADD(sum, guest);
 }
 
-static void finish(struct sum *sum) {
+static void finish(struct sum *sum)
+{
     const struct knucklepin_record asked = record(KNUCKLEPIN_AARCH32);
     struct knucklepin_state guest = state();
     uint32_t given;
@@ -266,7 +309,8 @@ static void finish(struct sum *sum) {
     ADD(sum, guest);
 }
 
-static void coprocessor_finish(struct sum *sum) {
+static void coprocessor_finish(struct sum *sum)
+{
     const struct knucklepin_record asked = record(KNUCKLEPIN_AARCH32);
     struct knucklepin_state guest = state();
     struct knucklepin_pair given;
@@ -276,7 +320,8 @@ static void coprocessor_finish(struct sum *sum) {
     ADD(sum, guest);
 }
 
-static void a32_describe(struct sum *sum) {
+static void a32_describe(struct sum *sum)
+{
     const struct knucklepin_state guest = state();
     struct knucklepin_access access;
     struct knucklepin_list registers;
@@ -285,7 +330,8 @@ static void a32_describe(struct sum *sum) {
     ADD(sum, registers);
 }
 
-static void a32_finish(struct sum *sum) {
+static void a32_finish(struct sum *sum)
+{
     struct knucklepin_state guest = state();
     struct knucklepin_list values, addresses, given;
     struct knucklepin_transfer transfer;
@@ -298,7 +344,8 @@ static void a32_finish(struct sum *sum) {
 }
 
 /* A log is written, changed in places, looked into and read. */
-static void logs(struct sum *sum) {
+static void logs(struct sum *sum)
+{
     uint8_t editions[4], buffer[128] = {0};
     struct knucklepin_esr syndromes[3];
     struct knucklepin_far fars[3];
@@ -334,7 +381,8 @@ static void logs(struct sum *sum) {
     ADD(sum, found);
 }
 
-static void single_numbers(struct sum *sum) {
+static void single_numbers(struct sum *sum)
+{
     uint32_t reader = edition(), writer = edition(), word = syndrome(), a32 = instruction();
     uint64_t wide = wide_syndrome();
     const uint64_t answers[] = {
@@ -375,7 +423,8 @@ static const struct {
     {"the eight that answer one number", single_numbers},
 };
 
-int main(int count, char **words) {
+int main(int count, char **words)
+{
     uint64_t times = count > 1 ? strtoull(words[1], NULL, 10) : 100000;
     for (size_t i = 0; i < sizeof CALLS / sizeof *CALLS; i++) {
         struct sum sum = {0, UINT64_C(0xcbf29ce484222325)};
