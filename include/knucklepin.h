@@ -81,7 +81,8 @@ struct knucklepin_hsr {
 /* ---- records ---- */
 
 /* What a syndrome word says, by kind: the kind's number, and then its fields, which are the manual's; the words after them are 0. `ec` is a
- * field of those kinds that have several classes. A flag is 0 or 1, and a field may hold any number: what no edition has is refused 5.
+ * field of those kinds that have several classes. A flag is 0 or 1, and a field may hold any number: what no edition has is refused 5. A
+ * record that is filled in by hand begins as {0}, which clears every word.
  *
  * Words that are no record (a kind's number above the last, a flag above 1, a word after the fields that isn't 0) are answered as the
  * record of kind KNUCKLEPIN_KIND_PLAIN and class 64 is, which no edition has: refused 5, after the tests that come before it. */
@@ -152,6 +153,7 @@ struct knucklepin_system {
 struct knucklepin_record {
     uint32_t kind;
     union {
+        uint32_t fields[15];
         struct knucklepin_plain plain;
         struct knucklepin_wfx wfx;
         struct knucklepin_mcr mcr;
@@ -167,7 +169,6 @@ struct knucklepin_record {
         struct knucklepin_watchpoint watchpoint;
         struct knucklepin_serror serror;
         struct knucklepin_system system;
-        uint32_t fields[15];
     };
 };
 KNUCKLEPIN_WORDS(struct knucklepin_record, 16);
@@ -187,6 +188,7 @@ struct knucklepin_short_data_abort {
 struct knucklepin_short_record {
     uint32_t kind;
     union {
+        uint32_t fields[15];
         struct knucklepin_plain plain;
         struct knucklepin_wfx wfx;
         struct knucklepin_mcr mcr;
@@ -197,7 +199,6 @@ struct knucklepin_short_record {
         struct knucklepin_smc smc;
         struct knucklepin_short_instruction_abort instruction_abort;
         struct knucklepin_short_data_abort data_abort;
-        uint32_t fields[15];
     };
 };
 KNUCKLEPIN_WORDS(struct knucklepin_short_record, 16);

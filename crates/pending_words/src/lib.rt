@@ -1,0 +1,73 @@
+// A queue of waiting interrupts as a number: two bits for each kind that waits, the oldest in the lowest. 1 is an abort, 2 an FIQ, 3 an IRQ.
+ghost use mathlib.Core.Path.{_≡_};
+ghost use mathlib.Core.List.{[], _∷_};
+ghost use Rattle.pending.specs.Reading.{listOf};
+ghost use Rattle.pending_words.specs.Number.{kindNumber, queueNumber, raisedBy, waitingFrom, waitingIn};
+use pending::Kind;
+use pending::Queue;
+use pending::empty;
+use pending::neighbour;
+use pending::raise;
+
+// The number of a kind.
+pub fn kind_number(kind: Kind) -> u32
+    ensures { λ n. ⌜ n ≡ kindNumber kind ⌝ }
+{
+    match kind {
+        Kind::Abort => 1,
+        Kind::Fiq => 2,
+        Kind::Irq => 3,
+    }
+}
+
+// Two kinds, the older in the lower bits.
+fn two(a: Kind, b: Kind) -> u32
+    ensures { λ n. ⌜ n ≡ queueNumber (a ∷ b ∷ []) ⌝ }
+{
+    kind_number(a) + 4 * kind_number(b)
+}
+
+fn three(a: Kind, b: Kind, c: Kind) -> u32
+    ensures { λ n. ⌜ n ≡ queueNumber (a ∷ b ∷ c ∷ []) ⌝ }
+{
+    kind_number(a) + 4 * two(b, c)
+}
+
+// The number of a queue.
+pub fn number_of(queue: Queue) -> u32
+    ensures { λ n. ⌜ n ≡ queueNumber (listOf queue) ⌝ }
+{
+    match queue {
+        Queue::Empty => 0,
+        Queue::One(a) => kind_number(a),
+        Queue::Two(a, after) => two(a, neighbour(a, after)),
+        Queue::Three(a, after) => three(a, neighbour(a, after), neighbour(a, !after)),
+    }
+}
+
+// The queue after the kind of a number was raised. A number that is no kind's raises nothing.
+pub fn raise_number(queue: Queue, kind: u32) -> Queue
+    ensures { λ r. ⌜ listOf r ≡ raisedBy kind (listOf queue) ⌝ }
+{
+    match kind {
+        1 => raise(queue, Kind::Abort),
+        2 => raise(queue, Kind::Fiq),
+        3 => raise(queue, Kind::Irq),
+        _ => queue,
+    }
+}
+
+// What waits in a number: the kinds of its pairs of bits, raised in turn, the lowest first. So every number is a queue's.
+pub fn queue_of(number: u32) -> Queue
+    ensures { λ r. ⌜ listOf r ≡ waitingIn number ⌝ }
+{
+    let mut queue = empty();
+    let mut left = number;
+    let mut pairs = 16;
+    while 0 < pairs {
+        queue = raise_number(queue, left % 4);
+        left = left / 4;
+        pairs -= 1;
+    }
+    queue
+}

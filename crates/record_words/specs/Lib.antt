@@ -1,0 +1,3 @@
+-- Records of the long form as sixteen words.
+pub mod Words
+pub mod Reading
