@@ -638,6 +638,64 @@ static bool access_row(struct row *row, struct reply *reply)
     return true;
 }
 
+/* ---- going on from a trap */
+
+static bool passes_row(struct row *row, struct reply *reply)
+{
+    struct knucklepin_record record;
+    if (!begins(row, 0, "w") || !record_of(row, 1, &record)) return false;
+    with(reply, knucklepin_passes(word(row, 0), &record));
+    return true;
+}
+
+static bool step_row(struct row *row, struct reply *reply)
+{
+    struct knucklepin_record record;
+    if (!is_state(row, 0) || !record_of(row, STATE, &record)) return false;
+    struct knucklepin_state state = state_of(row, 0);
+    with(reply, knucklepin_step_over(&state, &record));
+    with_changes(reply, row, 0, &state);
+    return true;
+}
+
+/* A row tells how many registers a write hands out: one of MCR, two of MCRR. */
+static bool copro_row(struct row *row, struct reply *reply)
+{
+    struct knucklepin_record record;
+    if (!begins(row, 0, "ww") || !is_state(row, 2) || !record_of(row, 2 + STATE, &record)) return false;
+    struct knucklepin_state state = state_of(row, 2);
+    struct knucklepin_pair given;
+    UNWRITTEN(given);
+    uint32_t number = knucklepin_coprocessor_finish(&state, &record, word(row, 0), word(row, 1), &given);
+    bool two = record.kind == KNUCKLEPIN_KIND_MCRR;
+    bool write = number == KNUCKLEPIN_TAKEN && (two ? record.mcrr.direction : record.mcr.direction) == 0;
+    with(reply, number);
+    with(reply, write ? two ? 2 : 1 : 0);
+    with(reply, given.first);
+    with(reply, given.second);
+    with_changes(reply, row, 2, &state);
+    return true;
+}
+
+static bool perform_row(struct row *row, struct reply *reply)
+{
+    if (!begins(row, 0, "wwwwwwwwwwwwwwwww") || !is_state(row, 17) || row->count != 17 + STATE) return false;
+    struct knucklepin_state state = state_of(row, 17);
+    struct knucklepin_list values, addresses, given;
+    struct knucklepin_transfer transfer;
+    for (size_t i = 0; i < 16; i++) values.word[i] = word(row, 1 + i);
+    UNWRITTEN(transfer);
+    UNWRITTEN(addresses);
+    UNWRITTEN(given);
+    with(reply, knucklepin_a32_finish(&state, word(row, 0), &values, &transfer, &addresses, &given));
+    with(reply, transfer.store);
+    with(reply, transfer.count);
+    for (size_t i = 0; i < 16; i++) with(reply, addresses.word[i]);
+    for (size_t i = 0; i < 16; i++) with(reply, given.word[i]);
+    with_changes(reply, row, 17, &state);
+    return true;
+}
+
 /* ---- the programs and their calls */
 
 /* A call without an answer here is none that is exported: the row is counted and not asked. */
@@ -645,14 +703,16 @@ static const struct call {
     const char *program, *word;
     bool (*answer)(struct row *, struct reply *);
 } CALLS[] = {
-    {"check_words", "read", read_row},      {"check_words", "write", write_row},     {"check_words", "carry", carry_row},
-    {"check_words", "again", again_row},    {"check_words", "trap", trap_row},       {"check_words", "both", both_row},
-    {"check_words", "hread", hread_row},    {"check_words", "hwrite", hwrite_row},   {"check_words", "hcarry", hcarry_row},
-    {"check_words", "hagain", hagain_row},  {"check_words", "widen", widen_row},     {"check_states", "inject", inject_row},
-    {"check_states", "lent", inject_row},   {"check_states", "held", held_row},      {"check_states", "spsr", spsr_row},
-    {"check_states", "finish", finish_row}, {"check_states", "finlent", finish_row}, {"check_runs", "run", run_row},
-    {"check_runs", "runlent", run_row},     {"check_a32", "decode", decode_row},     {"check_a32", "access", access_row},
-    {"check_a32", "encode", NULL},
+    {"check_words", "read", read_row},        {"check_words", "write", write_row},     {"check_words", "carry", carry_row},
+    {"check_words", "again", again_row},      {"check_words", "trap", trap_row},       {"check_words", "both", both_row},
+    {"check_words", "hread", hread_row},      {"check_words", "hwrite", hwrite_row},   {"check_words", "hcarry", hcarry_row},
+    {"check_words", "hagain", hagain_row},    {"check_words", "widen", widen_row},     {"check_states", "inject", inject_row},
+    {"check_states", "lent", inject_row},     {"check_states", "spsr", spsr_row},      {"check_states", "finish", finish_row},
+    {"check_states", "finlent", finish_row},  {"check_states", "held", held_row},      {"check_runs", "run", run_row},
+    {"check_runs", "runlent", run_row},       {"check_a32", "decode", decode_row},     {"check_a32", "encode", NULL},
+    {"check_a32", "access", access_row},      {"check_onward", "passes", passes_row},  {"check_onward", "step", step_row},
+    {"check_onward", "stepin", step_row},     {"check_onward", "copro", copro_row},    {"check_onward", "coproin", copro_row},
+    {"check_onward", "perform", perform_row}, {"check_onward", "perfin", perform_row},
 };
 
 static const struct call *call_of(const char *program, const char *line, size_t letters)
