@@ -584,6 +584,43 @@ static void going_on(void)
     CHECK(SAME(state, expected));
 }
 
+/* ---- a monitor */
+
+/* Answers a trap of a guest with one emulated card: at the card's page the load or store is finished, with what the card gives or gets; of
+   everything else the guest gets an undefined instruction. 0, or the number of the refusal, with the guest as it was. */
+static uint32_t answer(struct knucklepin_state *guest, struct knucklepin_esr esr, struct knucklepin_far far, struct knucklepin_hpfar hpfar,
+                       uint32_t value, uint32_t *given)
+{
+    const uint32_t board = KNUCKLEPIN_RAS | KNUCKLEPIN_LPA;
+    const uint64_t card = 0x1234;
+    struct knucklepin_trap trap;
+    struct knucklepin_editions editions;
+    uint32_t refusal = knucklepin_trap_read(KNUCKLEPIN_AARCH32, board, esr, far, hpfar, &trap, &editions);
+    if (refusal != KNUCKLEPIN_TAKEN) return refusal;
+    if (trap.known.intermediate_known == KNUCKLEPIN_BYTE && trap.addresses.intermediate_address >> 12 == card) {
+        return knucklepin_finish(guest, &trap.syndrome, value, given);
+    }
+    return knucklepin_inject(guest, KNUCKLEPIN_UNDEFINED_AT, 0, 0, 0, 0, 0);
+}
+
+static void monitor(void)
+{
+    struct knucklepin_state guest = user(), expected = user();
+    struct knucklepin_esr esr = {0x93830045};
+    const struct knucklepin_far far = {0x8abc};
+    struct knucklepin_hpfar hpfar = {0x12340};
+    uint32_t given;
+    CHECK(answer(&guest, esr, far, hpfar, 0, &given) == 0 && given == 0x103);
+    expected.pc = 0x8004;
+    CHECK(SAME(guest, expected));
+    hpfar.word = 0x12350;
+    CHECK(answer(&guest, esr, far, hpfar, 0, &given) == 0 && guest.pc == 0x1004 && guest.status == 0x9b && guest.regs[22] == 0x8008);
+    guest = user();
+    expected = user();
+    esr.word = 0x92000018;
+    CHECK(answer(&guest, esr, far, hpfar, 0, &given) == KNUCKLEPIN_OTHER_EDITIONS && SAME(guest, expected));
+}
+
 /* ---- A32 loads and stores */
 
 static void a32(void)
@@ -764,6 +801,7 @@ int main(void)
     injections();
     interrupts();
     going_on();
+    monitor();
     a32();
     logs();
     printf("calls: %u answers as worked out by hand, %u others\n", checks - wrong, wrong);
