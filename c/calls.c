@@ -2,22 +2,25 @@
    nothing, which are answered too. Prints each answer that is another, and ends with status 1 where there is one. */
 #include "knucklepin.h"
 
+#include <inttypes.h>
 #include <stdbool.h>
 #include <stdio.h>
 #include <string.h>
 
 static unsigned checks, wrong;
 
-static void check(bool holds, const char *what, int line)
+static void check(bool holds, const char *what, int line, uint32_t word)
 {
     checks++;
     if (!holds) {
         wrong++;
-        printf("calls.c:%d: not so: %s\n", line, what);
+        printf("calls.c:%d: not so: %s (0x%08" PRIx32 ")\n", line, what, word);
     }
 }
 
-#define CHECK(...) check(__VA_ARGS__, #__VA_ARGS__, __LINE__)
+#define CHECK(...) check(__VA_ARGS__, #__VA_ARGS__, __LINE__, 0)
+/* The same of a table's row, which a word tells. */
+#define CHECK_AT(holds, word) check(holds, #holds, __LINE__, word)
 #define SAME(a, b) (memcmp(&(a), &(b), sizeof(a)) == 0)
 
 /* What a call writes holds other numbers before it. */
@@ -118,6 +121,11 @@ static void words(void)
     CHECK(reads(3, 0x92000031, KNUCKLEPIN_OTHER_EDITIONS, WITH_HAFDBS, 8));
     CHECK(reads(0, 0x92001010, KNUCKLEPIN_OTHER_EDITIONS, WITH_RAS, 8));
     CHECK(reads(0, 0x92000810, KNUCKLEPIN_NO_EDITION, 0, 0));
+    CHECK(reads(KNUCKLEPIN_LPA | KNUCKLEPIN_LPA2, 0x92000018, KNUCKLEPIN_TAKEN, 0, 0));
+    CHECK(reads(KNUCKLEPIN_LPA2, 0x9200001b, KNUCKLEPIN_TAKEN, 0, 0));
+    CHECK(reads(KNUCKLEPIN_HAFDBS, 0x92000031, KNUCKLEPIN_TAKEN, 0, 0));
+    CHECK(reads(KNUCKLEPIN_HAFDBS, 0x92000018, KNUCKLEPIN_TAKEN, 0, 0));
+    CHECK(reads(KNUCKLEPIN_RAS, 0x92001010, KNUCKLEPIN_TAKEN, 0, 0));
     CHECK(reads(15, 0x02000000, KNUCKLEPIN_TAKEN, 0, 0));
     CHECK(reads(16, 0x02000000, KNUCKLEPIN_UNKNOWN_EDITION, 0, 0));
     CHECK(reads(0xffffffff, UINT64_MAX, KNUCKLEPIN_UNKNOWN_EDITION, 0, 0));
@@ -254,6 +262,124 @@ static bool no_trap(const struct knucklepin_trap *trap)
     return ZEROS(trap->syndrome) && ZEROS(trap->known) && ZEROS(trap->addresses);
 }
 
+/* Each kind's fields by their names: no two of a kind are alike in all of its words here. */
+static const struct {
+    uint32_t origin, edition, word;
+    struct knucklepin_record record;
+} LONG[] = {
+    /* origin, edition, word, and the record by the layout lines of 01, C-20 and C-23 */
+    {0, 0, 0x02000000, {.kind = KNUCKLEPIN_KIND_PLAIN, .plain = {.ec = 0x00, .il = 1}}},
+    {0, 0, 0x8a000000, {.kind = KNUCKLEPIN_KIND_PLAIN, .plain = {.ec = 0x22, .il = 1}}},
+    {0, 0, 0x05b00001, {.kind = KNUCKLEPIN_KIND_WFX, .wfx = {.il = 0, .cv = 1, .cond = 0xb, .ti = 1}}},
+    {0, 0, 0x06500001, {.kind = KNUCKLEPIN_KIND_WFX, .wfx = {.il = 1, .cv = 0, .cond = 0x5, .ti = 1}}},
+    {0,
+     0,
+     0x17b28c8a,
+     {.kind = KNUCKLEPIN_KIND_MCR, .mcr = {.ec = 0x05, .il = 1, .cv = 1, .cond = 0xb, .opc2 = 1, .opc1 = 2, .crn = 3, .rt = 4, .crm = 5}}},
+    {0,
+     0,
+     0x0e528c8b,
+     {.kind = KNUCKLEPIN_KIND_MCR,
+      .mcr = {.ec = 0x03, .il = 1, .cond = 0x5, .opc2 = 1, .opc1 = 2, .crn = 3, .rt = 4, .crm = 5, .direction = 1}}},
+    {0,
+     0,
+     0x13b10868,
+     {.kind = KNUCKLEPIN_KIND_MCRR, .mcrr = {.ec = 0x04, .il = 1, .cv = 1, .cond = 0xb, .opc1 = 1, .rt2 = 2, .rt = 3, .crm = 4}}},
+    {0,
+     0,
+     0x32510869,
+     {.kind = KNUCKLEPIN_KIND_MCRR, .mcrr = {.ec = 0x0c, .il = 1, .cond = 0x5, .opc1 = 1, .rt2 = 2, .rt = 3, .crm = 4, .direction = 1}}},
+    {0, 0, 0x1bb5a064, {.kind = KNUCKLEPIN_KIND_LDC, .ldc = {.il = 1, .cv = 1, .cond = 0xb, .imm8 = 0x5a, .rn = 3, .am = 2}}},
+    {0,
+     0,
+     0x1a55a075,
+     {.kind = KNUCKLEPIN_KIND_LDC, .ldc = {.il = 1, .cond = 0x5, .imm8 = 0x5a, .rn = 3, .offset = 1, .am = 2, .direction = 1}}},
+    {0, 0, 0x1bb5a074, {.kind = KNUCKLEPIN_KIND_LDC, .ldc = {.il = 1, .cv = 1, .cond = 0xb, .imm8 = 0x5a, .rn = 3, .offset = 1, .am = 2}}},
+    {0, 0, 0x1fb00000, {.kind = KNUCKLEPIN_KIND_SIMD, .simd = {.il = 1, .cv = 1, .cond = 0xb}}},
+    {0, 0, 0x1e500000, {.kind = KNUCKLEPIN_KIND_SIMD, .simd = {.il = 1, .cv = 0, .cond = 0x5}}},
+    {0, 0, 0x44000012, {.kind = KNUCKLEPIN_KIND_CALL, .call = {.ec = 0x11, .il = 0, .imm16 = 0x12}}},
+    {0, 0, 0xe2000034, {.kind = KNUCKLEPIN_KIND_CALL, .call = {.ec = 0x38, .il = 1, .imm16 = 0x34}}},
+    {1, 0, 0x5e001234, {.kind = KNUCKLEPIN_KIND_CALL, .call = {.ec = 0x17, .il = 1, .imm16 = 0x1234}}},
+    {0, 0, 0x4fb80000, {.kind = KNUCKLEPIN_KIND_SMC, .smc = {.il = 1, .cv = 1, .cond = 0xb, .ccknownpass = 1}}},
+    {0, 0, 0x4e580000, {.kind = KNUCKLEPIN_KIND_SMC, .smc = {.il = 1, .cv = 0, .cond = 0x5, .ccknownpass = 1}}},
+    {0, 0, 0x4e000000, {.kind = KNUCKLEPIN_KIND_SMC, .smc = {.il = 1}}},
+    {0, 1, 0x82001010, {.kind = KNUCKLEPIN_KIND_INSTRUCTION_ABORT, .instruction_abort = {.il = 1, .set = 2, .fsc = 0x10}}},
+    {0, 0, 0x82000410, {.kind = KNUCKLEPIN_KIND_INSTRUCTION_ABORT, .instruction_abort = {.il = 1, .fnv = 1, .fsc = 0x10}}},
+    {0, 0, 0x82000210, {.kind = KNUCKLEPIN_KIND_INSTRUCTION_ABORT, .instruction_abort = {.il = 1, .ea = 1, .fsc = 0x10}}},
+    {0, 0, 0x82000085, {.kind = KNUCKLEPIN_KIND_INSTRUCTION_ABORT, .instruction_abort = {.il = 1, .s1ptw = 1, .fsc = 0x05}}},
+    {0, 0, 0x91830005, {.kind = KNUCKLEPIN_KIND_DATA_ABORT, .data_abort = {.il = 0, .isv = 1, .sas = 2, .srt = 3, .fsc = 0x05}}},
+    {0, 0, 0x93220005, {.kind = KNUCKLEPIN_KIND_DATA_ABORT, .data_abort = {.il = 1, .isv = 1, .sse = 1, .srt = 2, .fsc = 0x05}}},
+    {1, 0, 0x93c28005, {.kind = KNUCKLEPIN_KIND_DATA_ABORT, .data_abort = {.il = 1, .isv = 1, .sas = 3, .srt = 2, .sf = 1, .fsc = 0x05}}},
+    {0, 0, 0x93824005, {.kind = KNUCKLEPIN_KIND_DATA_ABORT, .data_abort = {.il = 1, .isv = 1, .sas = 2, .srt = 2, .ar = 1, .fsc = 0x05}}},
+    {0, 1, 0x92001010, {.kind = KNUCKLEPIN_KIND_DATA_ABORT, .data_abort = {.il = 1, .set = 2, .fsc = 0x10}}},
+    {0, 0, 0x92000410, {.kind = KNUCKLEPIN_KIND_DATA_ABORT, .data_abort = {.il = 1, .fnv = 1, .fsc = 0x10}}},
+    {0, 0, 0x92000210, {.kind = KNUCKLEPIN_KIND_DATA_ABORT, .data_abort = {.il = 1, .ea = 1, .fsc = 0x10}}},
+    {0, 0, 0x92000145, {.kind = KNUCKLEPIN_KIND_DATA_ABORT, .data_abort = {.il = 1, .cm = 1, .wnr = 1, .fsc = 0x05}}},
+    {0, 0, 0x92000085, {.kind = KNUCKLEPIN_KIND_DATA_ABORT, .data_abort = {.il = 1, .s1ptw = 1, .fsc = 0x05}}},
+    {0, 0, 0x92000045, {.kind = KNUCKLEPIN_KIND_DATA_ABORT, .data_abort = {.il = 1, .wnr = 1, .fsc = 0x05}}},
+    {0, 0, 0xc2000022, {.kind = KNUCKLEPIN_KIND_DEBUG, .debug = {.ec = 0x30, .il = 1}}},
+    {0, 0, 0xcb000022, {.kind = KNUCKLEPIN_KIND_STEP, .step = {.il = 1, .isv = 1, .ex = 0}}},
+    {0, 0, 0xca000022, {.kind = KNUCKLEPIN_KIND_STEP, .step = {.il = 1, .isv = 0, .ex = 0}}},
+    {0, 0, 0xd2000062, {.kind = KNUCKLEPIN_KIND_WATCHPOINT, .watchpoint = {.il = 1, .cm = 0, .wnr = 1}}},
+    {0, 0, 0xd2000022, {.kind = KNUCKLEPIN_KIND_WATCHPOINT, .watchpoint = {.il = 1}}},
+    {0, 1, 0xbe000c11, {.kind = KNUCKLEPIN_KIND_SERROR, .serror = {.il = 1, .aet = 3, .ea = 0, .fsc = 0x11}}},
+    {0, 1, 0xbe000211, {.kind = KNUCKLEPIN_KIND_SERROR, .serror = {.il = 1, .aet = 0, .ea = 1, .fsc = 0x11}}},
+    {1, 0, 0x6222d0ac, {.kind = KNUCKLEPIN_KIND_SYSTEM, .system = {.il = 1, .op0 = 2, .op2 = 1, .op1 = 3, .crn = 4, .rt = 5, .crm = 6}}},
+};
+
+static const struct {
+    uint32_t word;
+    struct knucklepin_short_record record;
+} SHORT[] = {
+    /* word, and the record by the layout lines of source 004 */
+    {0x02000000, {.kind = KNUCKLEPIN_KIND_PLAIN, .plain = {.ec = 0x00, .il = 1}}},
+    {0x05b00001, {.kind = KNUCKLEPIN_KIND_WFX, .wfx = {.il = 0, .cv = 1, .cond = 0xb, .ti = 1}}},
+    {0x06500001, {.kind = KNUCKLEPIN_KIND_WFX, .wfx = {.il = 1, .cv = 0, .cond = 0x5, .ti = 1}}},
+    {0x17b28c8a,
+     {.kind = KNUCKLEPIN_KIND_MCR, .mcr = {.ec = 0x05, .il = 1, .cv = 1, .cond = 0xb, .opc2 = 1, .opc1 = 2, .crn = 3, .rt = 4, .crm = 5}}},
+    {0x32510869,
+     {.kind = KNUCKLEPIN_KIND_MCRR, .mcrr = {.ec = 0x0c, .il = 1, .cond = 0x5, .opc1 = 1, .rt2 = 2, .rt = 3, .crm = 4, .direction = 1}}},
+    {0x1bb5a064, {.kind = KNUCKLEPIN_KIND_LDC, .ldc = {.il = 1, .cv = 1, .cond = 0xb, .imm8 = 0x5a, .rn = 3, .am = 2}}},
+    {0x1fb0002a, {.kind = KNUCKLEPIN_KIND_SIMD, .simd = {.il = 1, .cv = 1, .cond = 0xb, .ta = 1, .coproc = 0xa}}},
+    {0x1e50002a, {.kind = KNUCKLEPIN_KIND_SIMD, .simd = {.il = 1, .cv = 0, .cond = 0x5, .ta = 1, .coproc = 0xa}}},
+    {0x1fb00000, {.kind = KNUCKLEPIN_KIND_SIMD, .simd = {.il = 1, .cv = 1, .cond = 0xb, .ta = 0, .coproc = 0}}},
+    {0x44000012, {.kind = KNUCKLEPIN_KIND_CALL, .call = {.ec = 0x11, .il = 0, .imm16 = 0x12}}},
+    {0x4fb80000, {.kind = KNUCKLEPIN_KIND_SMC, .smc = {.il = 1, .cv = 1, .cond = 0xb, .ccknownpass = 1}}},
+    {0x82000410, {.kind = KNUCKLEPIN_KIND_INSTRUCTION_ABORT, .instruction_abort = {.il = 1, .fnv = 1, .fsc = 0x10}}},
+    {0x82000210, {.kind = KNUCKLEPIN_KIND_INSTRUCTION_ABORT, .instruction_abort = {.il = 1, .ea = 1, .fsc = 0x10}}},
+    {0x82000085, {.kind = KNUCKLEPIN_KIND_INSTRUCTION_ABORT, .instruction_abort = {.il = 1, .s1ptw = 1, .fsc = 0x05}}},
+    {0x91830005, {.kind = KNUCKLEPIN_KIND_DATA_ABORT, .data_abort = {.il = 0, .isv = 1, .sas = 2, .srt = 3, .fsc = 0x05}}},
+    {0x93220005, {.kind = KNUCKLEPIN_KIND_DATA_ABORT, .data_abort = {.il = 1, .isv = 1, .sse = 1, .srt = 2, .fsc = 0x05}}},
+    {0x93824005, {.kind = KNUCKLEPIN_KIND_DATA_ABORT, .data_abort = {.il = 1, .isv = 1, .sas = 2, .srt = 2, .ar = 1, .fsc = 0x05}}},
+    {0x92000410, {.kind = KNUCKLEPIN_KIND_DATA_ABORT, .data_abort = {.il = 1, .aet = 1, .fsc = 0x10}}},
+    {0x92000210, {.kind = KNUCKLEPIN_KIND_DATA_ABORT, .data_abort = {.il = 1, .ea = 1, .fsc = 0x10}}},
+    {0x92000145, {.kind = KNUCKLEPIN_KIND_DATA_ABORT, .data_abort = {.il = 1, .cm = 1, .wnr = 1, .fsc = 0x05}}},
+    {0x92000085, {.kind = KNUCKLEPIN_KIND_DATA_ABORT, .data_abort = {.il = 1, .s1ptw = 1, .fsc = 0x05}}},
+    {0x92000045, {.kind = KNUCKLEPIN_KIND_DATA_ABORT, .data_abort = {.il = 1, .wnr = 1, .fsc = 0x05}}},
+};
+
+static void fields(void)
+{
+    struct knucklepin_editions editions;
+    for (size_t i = 0; i < sizeof LONG / sizeof *LONG; i++) {
+        struct knucklepin_record record;
+        struct knucklepin_esr esr;
+        CHECK_AT(esr_read(LONG[i].origin, LONG[i].edition, LONG[i].word, &record, &editions) == 0, LONG[i].word);
+        CHECK_AT(SAME(record, LONG[i].record), LONG[i].word);
+        CHECK_AT(esr_write(LONG[i].origin, LONG[i].edition, &LONG[i].record, &esr, &editions) == 0, LONG[i].word);
+        CHECK_AT(esr.word == LONG[i].word, LONG[i].word);
+    }
+    for (size_t i = 0; i < sizeof SHORT / sizeof *SHORT; i++) {
+        struct knucklepin_short_record record;
+        struct knucklepin_hsr hsr = {SHORT[i].word};
+        CHECK_AT(knucklepin_hsr_read(0, hsr, &record, &editions) == 0, SHORT[i].word);
+        CHECK_AT(SAME(record, SHORT[i].record), SHORT[i].word);
+        UNWRITTEN(hsr);
+        CHECK_AT(knucklepin_hsr_write(0, &SHORT[i].record, &hsr, &editions) == 0, SHORT[i].word);
+        CHECK_AT(hsr.word == SHORT[i].word, SHORT[i].word);
+    }
+}
+
 static void traps(void)
 {
     struct knucklepin_trap trap;
@@ -325,6 +451,7 @@ static void modes(void)
     CHECK(knucklepin_held_in(KNUCKLEPIN_MODE_SYS, 14) == 14);
     CHECK(knucklepin_held_in(KNUCKLEPIN_MODE_IRQ, 13) == 17);
     CHECK(knucklepin_held_in(KNUCKLEPIN_MODE_IRQ, 14) == 16);
+    CHECK(knucklepin_held_in(KNUCKLEPIN_MODE_SVC, 14) == 18);
     CHECK(knucklepin_held_in(KNUCKLEPIN_MODE_ABT, 14) == 20);
     CHECK(knucklepin_held_in(KNUCKLEPIN_MODE_UND, 13) == 23);
     CHECK(knucklepin_held_in(KNUCKLEPIN_MODE_FIQ, 8) == 24);
@@ -341,6 +468,25 @@ static void modes(void)
     CHECK(knucklepin_from_spsr(1, 1, 0, 0x01000010, &status) == KNUCKLEPIN_UNSOUND_STATUS && status == 0);
     CHECK(knucklepin_from_spsr(1, 1, 1, 0xffffffff, &status) == 0 && status == 0xfeffffff);
     CHECK(knucklepin_from_spsr(1, 1, 1, 0, &status) == KNUCKLEPIN_UNSOUND_STATUS && status == 0);
+}
+
+/* Whether a status word's bit goes with a mark alone. */
+static bool marked(uint32_t bit, uint32_t pan, uint32_t ssbs, uint32_t dit)
+{
+    struct knucklepin_state state = user();
+    state.status |= UINT32_C(1) << bit;
+    state.pan = pan;
+    state.ssbs = ssbs;
+    state.dit = dit;
+    return knucklepin_inject(&state, KNUCKLEPIN_SUPERVISOR_CALL, 0, 0, 0, 0, 0) == 0;
+}
+
+/* DFSR after a data abort in the short format. */
+static uint32_t short_dfsr(uint32_t fault, uint32_t level)
+{
+    struct knucklepin_state state = user();
+    CHECK(knucklepin_inject(&state, KNUCKLEPIN_DATA_ABORT, fault, level, 0, 0, 0) == 0);
+    return state.dfsr;
 }
 
 static bool refused_injection(const struct knucklepin_state *before, uint32_t injection, uint32_t fault, uint32_t level, uint64_t address,
@@ -415,6 +561,14 @@ static void injections(void)
     state = user();
     state.ttbcr = 0x80000000;
     CHECK(knucklepin_inject(&state, KNUCKLEPIN_DATA_ABORT, KNUCKLEPIN_FAULT_TRANSLATION, 2, 0, 1, 7) == 0 && state.dfsr == 0xa06);
+
+    /* The faults. SSBS is bit 23, PAN 22 and DIT 21; bit 24 goes with none. */
+    CHECK(short_dfsr(KNUCKLEPIN_FAULT_EXTERNAL, 0) == 0x8 && short_dfsr(KNUCKLEPIN_FAULT_ALIGNMENT, 0) == 0x1);
+    CHECK(short_dfsr(KNUCKLEPIN_FAULT_TRANSLATION, 1) == 0x5 && short_dfsr(KNUCKLEPIN_FAULT_ACCESS_FLAG, 1) == 0x3);
+    CHECK(short_dfsr(KNUCKLEPIN_FAULT_PERMISSION, 1) == 0xd && short_dfsr(KNUCKLEPIN_FAULT_PERMISSION, 2) == 0xf);
+    CHECK(marked(22, 1, 0, 0) && marked(23, 0, 1, 0) && marked(21, 0, 0, 1));
+    CHECK(!marked(22, 0, 1, 1) && !marked(23, 1, 0, 1) && !marked(21, 1, 1, 0) && !marked(24, 1, 1, 1));
+    CHECK(marked(22, 0xffffffff, 0, 0) && marked(23, 0, 2, 0) && marked(21, 0, 0, 0x80000000));
 
     /* Refusals, in their order, with the state as it came: numbers that mean nothing too. */
     state = user();
@@ -706,8 +860,28 @@ static void a32(void)
     const struct knucklepin_list at_105_109 = {{0x105, 0x109}}, stored = {{0x104, 0x10e}};
     CHECK(transfer.store == 1 && transfer.count == 2 && SAME(addresses, at_105_109) && SAME(given, stored));
 
-    /* LDR r2, [r1, r3] and LDR r2, [pc, #8]; the words come back, and 0 (ANDEQ) is no load or store. */
-    CHECK(knucklepin_a32_form(0xe5912004) == KNUCKLEPIN_LDR);
+    /* LDRSB r2, [r1, -r3] */
+    state = user();
+    CHECK(knucklepin_a32_describe(&state, 0xe11120d3, &access, &registers) == 0);
+    const struct knucklepin_access ldrsb = {.form = KNUCKLEPIN_LDRSB + KNUCKLEPIN_REGISTER,
+                                            .cond = 0xe,
+                                            .p = 1,
+                                            .rn = 1,
+                                            .rt = 2,
+                                            .rm = 3,
+                                            .load = 1,
+                                            .sse = 1,
+                                            .count = 1,
+                                            .address = 0xfffffffe};
+    CHECK(SAME(access, ldrsb));
+
+    /* Each transfer with [r1, #4]; LDR r2, [r1, r3] and LDR r2, [pc, #8]; the words come back, and 0 (ANDEQ) is no load or store. */
+    CHECK(knucklepin_a32_form(0xe5912004) == KNUCKLEPIN_LDR && knucklepin_a32_form(0xe5812004) == KNUCKLEPIN_STR);
+    CHECK(knucklepin_a32_form(0xe5d12004) == KNUCKLEPIN_LDRB && knucklepin_a32_form(0xe5c12004) == KNUCKLEPIN_STRB);
+    CHECK(knucklepin_a32_form(0xe1d120b4) == KNUCKLEPIN_LDRH && knucklepin_a32_form(0xe1c120b4) == KNUCKLEPIN_STRH);
+    CHECK(knucklepin_a32_form(0xe1d120d4) == KNUCKLEPIN_LDRSB && knucklepin_a32_form(0xe1d120f4) == KNUCKLEPIN_LDRSH);
+    CHECK(knucklepin_a32_form(0xe1c120d4) == KNUCKLEPIN_LDRD && knucklepin_a32_form(0xe1c120f4) == KNUCKLEPIN_STRD);
+    CHECK(knucklepin_a32_form(0xe891000c) == KNUCKLEPIN_LDM && knucklepin_a32_form(0xe881000c) == KNUCKLEPIN_STM);
     CHECK(knucklepin_a32_form(0xe7912003) == KNUCKLEPIN_LDR + KNUCKLEPIN_REGISTER);
     CHECK(knucklepin_a32_form(0xe59f2008) == KNUCKLEPIN_LDR + KNUCKLEPIN_LITERAL);
     CHECK(knucklepin_a32_form(0xe92d4010) == KNUCKLEPIN_STM);
@@ -796,6 +970,7 @@ int main(void)
 {
     words();
     short_words();
+    fields();
     traps();
     modes();
     injections();
