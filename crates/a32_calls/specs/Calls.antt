@@ -22,10 +22,10 @@ accessTold described.UnsoundStatus = zeros 16
 accessTold described.T32State = zeros 16
 accessTold described.NoForm = zeros 16
 
-pub record DescribedWords (s : Guest) (w n : ℕ) (access registers : List ℕ) : Type 0 where
+pub record DescribedWords (s : Guest) (w n : ℕ) (a r : List ℕ) : Type 0 where
   pub answer : n ≡ answerNumber (describedAnswer s w)
-  pub access : access ≡ accessTold (describedAnswer s w)
-  pub registers : registers ≡ registersIn (describedAnswer s w)
+  pub access : a ≡ accessTold (describedAnswer s w)
+  pub registers : r ≡ registersIn (describedAnswer s w)
 
 -- whether a store was made, and how many registers were transferred
 abbrev pub transferTold : Made → List ℕ
@@ -35,8 +35,8 @@ transferTold made.UnsoundStatus = zeros 2
 transferTold made.T32State = zeros 2
 transferTold made.NoForm = zeros 2
 
-pub record FinishedWords (w : List ℕ) (word : ℕ) (values : List ℕ) (n : ℕ) (w′ transfer addresses given : List ℕ) : Type 0 where
+pub record FinishedWords (w : List ℕ) (word : ℕ) (values : List ℕ) (n : ℕ) (w′ t a g : List ℕ) : Type 0 where
   pub lent : Lent w (finishNumber (finished (stateOf w) word values .outcome .answer)) (finished (stateOf w) word values .state) n w′
-  pub transfer : transfer ≡ transferTold (finished (stateOf w) word values .outcome .answer)
-  pub addresses : addresses ≡ finished (stateOf w) word values .outcome .addresses
-  pub given : given ≡ finished (stateOf w) word values .outcome .values
+  pub transfer : t ≡ transferTold (finished (stateOf w) word values .outcome .answer)
+  pub addresses : a ≡ finished (stateOf w) word values .outcome .addresses
+  pub given : g ≡ finished (stateOf w) word values .outcome .values

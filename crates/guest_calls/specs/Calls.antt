@@ -37,9 +37,9 @@ abbrev pub statusIn : FromSpsr → ℕ
 statusIn (FromSpsr.Status w) = w
 statusIn FromSpsr.Unsound = 0
 
-pub record SavedWord (pan ssbs dit spsr n status : ℕ) : Type 0 where
+pub record SavedWord (pan ssbs dit spsr n word : ℕ) : Type 0 where
   pub answer : n ≡ spsrNumber (fromSpsr (marksBy pan ssbs dit) spsr)
-  pub status : status ≡ statusIn (fromSpsr (marksBy pan ssbs dit) spsr)
+  pub status : word ≡ statusIn (fromSpsr (marksBy pan ssbs dit) spsr)
 
 -- ---- injections and the return
 

@@ -1,7 +1,7 @@
 // What a caller asks for by numbers. Every number is answered: one that means nothing stands for an injection that is refused.
 ghost use mathlib.Core.Path.{_≡_};
 ghost use Prim.Native.Nat.{min};
-ghost use Rattle.guest_calls.specs.Asked.{faultOf, noFault, injectionOf, heldNumber, statusIn, answeredSpsr, modulo, isInjection, isKind};
+ghost use Rattle.guest_calls.specs.Asked.{faultOf, noFault, injectionOf};
 use fault::Fault;
 use guest::Access;
 use guest::Fetch;

@@ -1,9 +1,10 @@
 // The calls.
 ghost use mathlib.Core.Path.{_≡_};
+ghost use Rattle.delivery.specs.Answer.{plainAnswer};
 ghost use Rattle.state_words.specs.Words.{stateOf};
 ghost use Rattle.pending_words.specs.Number.{queueNumber, raisedBy, waitingIn};
 ghost use Rattle.guest_calls.specs.Asked.{heldNumber, injectionOf};
-ghost use Rattle.guest_calls.specs.Calls.{SavedWord, Injecting, injectionCorrection, Delivering, deliveryCorrection, Returning};
+ghost use Rattle.guest_calls.specs.Calls.{SavedWord, Injecting, injectionCorrection, deliveredBy, Delivering, deliveryCorrection, Returning};
 use crate::asked::injection_of;
 use pending::Kind;
 use pending_words::number_of;
@@ -103,7 +104,7 @@ pub extern "C" fn knucklepin_raise(queue: u32, kind: u32) -> u32
 }
 
 fn delivered_number(answer: delivery::Answer) -> u32
-    ensures { λ n. ⌜ n ≡ deliveredNumber answer ⌝ }
+    ensures { λ n. ⌜ n ≡ deliveredBy (plainAnswer answer) ⌝ }
 {
     match answer {
         delivery::Answer::Delivered(kind) => pending_words::kind_number(kind),

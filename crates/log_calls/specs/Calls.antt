@@ -53,7 +53,7 @@ foundIn l =
     wholeIn (l .section) ∷ countIn (l .section) ∷ entryIn (l .entry) ∷ firstIn (l .entry) ∷ secondIn (l .entry) ∷ []
 
 -- the buffer before the call and after it, and the log's length, 0 on a refusal
-pub record WrittenLog (l : Lists) (before : List ℕ) (n : ℕ) (after : List ℕ) (size : ℕ) : Type 0 where
+pub record WrittenLog (l : Lists) (before : List ℕ) (n : ℕ) (after : List ℕ) (bytes : ℕ) : Type 0 where
   pub answer : n ≡ writer.numberOf (writtenOf l (length before))
-  pub size : size ≡ lengthIn (writtenOf l (length before))
+  pub size : bytes ≡ lengthIn (writtenOf l (length before))
   pub buffer : after ≡ bufferAfter (writtenOf l (length before)) (logOf (entriesFrom l)) before

@@ -26,9 +26,9 @@ storedIn access.NoEdition = 0
 storedIn access.UnsoundStatus = 0
 storedIn access.NotDescribed = 0
 
-pub record Finishing (w : List ℕ) (r : Record) (value n : ℕ) (w′ : List ℕ) (given : ℕ) : Type 0 where
+pub record Finishing (w : List ℕ) (r : Record) (value n : ℕ) (w′ : List ℕ) (out : ℕ) : Type 0 where
   pub lent : Lent w (accessNumber (device.finished (stateOf w) r value .answer)) (device.finished (stateOf w) r value .state) n w′
-  pub given : given ≡ storedIn (device.finished (stateOf w) r value .answer)
+  pub given : out ≡ storedIn (device.finished (stateOf w) r value .answer)
 
 -- what a write hands out of Rt and Rt2; a read and a refusal hand out nothing
 abbrev pub firstIn : Transfer → ℕ
@@ -47,8 +47,8 @@ secondIn transfer.NoEdition = 0
 secondIn transfer.UnsoundStatus = 0
 secondIn transfer.NoTransfer = 0
 
-pub record Transferring (w : List ℕ) (r : Record) (first second n : ℕ) (w′ given : List ℕ) : Type 0 where
+pub record Transferring (w : List ℕ) (r : Record) (first second n : ℕ) (w′ out : List ℕ) : Type 0 where
   pub lent : Lent w (transferNumber (coprocessor.finished (stateOf w) r first second .answer))
       (coprocessor.finished (stateOf w) r first second .state) n w′
-  pub given : given ≡ firstIn (coprocessor.finished (stateOf w) r first second .answer)
+  pub given : out ≡ firstIn (coprocessor.finished (stateOf w) r first second .answer)
       ∷ secondIn (coprocessor.finished (stateOf w) r first second .answer) ∷ []

@@ -1,6 +1,6 @@
 // A queue of waiting interrupts as a number: two bits for each kind that waits, the oldest in the lowest. 1 is an abort, 2 an FIQ, 3 an IRQ.
 ghost use mathlib.Core.Path.{_≡_};
-ghost use mathlib.Core.List.{[], _∷_};
+ghost use Rattle.pending.specs.declared.Queue.{Queue};
 ghost use Rattle.pending.specs.Reading.{listOf};
 ghost use Rattle.pending_words.specs.Number.{kindNumber, queueNumber, raisedBy, waitingFrom, waitingIn};
 use pending::Kind;
@@ -20,17 +20,17 @@ pub fn kind_number(kind: Kind) -> u32
     }
 }
 
-// Two kinds, the older in the lower bits.
-fn two(a: Kind, b: Kind) -> u32
-    ensures { λ n. ⌜ n ≡ queueNumber (a ∷ b ∷ []) ⌝ }
+// The number of two that wait, and of three.
+fn two(a: Kind, after: bool) -> u32
+    ensures { λ n. ⌜ n ≡ queueNumber (listOf (Queue.Two a after)) ⌝ }
 {
-    kind_number(a) + 4 * kind_number(b)
+    kind_number(a) + 4 * kind_number(neighbour(a, after))
 }
 
-fn three(a: Kind, b: Kind, c: Kind) -> u32
-    ensures { λ n. ⌜ n ≡ queueNumber (a ∷ b ∷ c ∷ []) ⌝ }
+fn three(a: Kind, after: bool) -> u32
+    ensures { λ n. ⌜ n ≡ queueNumber (listOf (Queue.Three a after)) ⌝ }
 {
-    kind_number(a) + 4 * two(b, c)
+    kind_number(a) + 4 * kind_number(neighbour(a, after)) + 16 * kind_number(neighbour(a, !after))
 }
 
 // The number of a queue.
@@ -40,8 +40,8 @@ pub fn number_of(queue: Queue) -> u32
     match queue {
         Queue::Empty => 0,
         Queue::One(a) => kind_number(a),
-        Queue::Two(a, after) => two(a, neighbour(a, after)),
-        Queue::Three(a, after) => three(a, neighbour(a, after), neighbour(a, !after)),
+        Queue::Two(a, after) => two(a, after),
+        Queue::Three(a, after) => three(a, after),
     }
 }
 
@@ -63,7 +63,7 @@ pub fn queue_of(number: u32) -> Queue
 {
     let mut queue = empty();
     let mut left = number;
-    let mut pairs = 16;
+    let mut pairs: u32 = 16;
     while 0 < pairs {
         queue = raise_number(queue, left % 4);
         left = left / 4;

@@ -1,3 +1,3 @@
 -- Laws that other crates cite.
-pub mod Same
+pub mod Alike
 pub mod RoundTrip

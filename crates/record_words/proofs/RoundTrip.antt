@@ -8,7 +8,7 @@ use lib.ListN.{length}
 use Rattle.record.specs.declared.kinds.Record.{Record}
 use Rattle.record_words.specs.Words.{wordsOf}
 use Rattle.record_words.specs.Reading.{wordIn, recordBy, noRecord, sameBelow, isRecord, recordOf}
-use Rattle.record_words.proofs.Same.{flag-back, same-all, same-lists}
+use Rattle.record_words.proofs.Alike.{flag-back, same-all, same-lists}
 
 pub sixteen : (r : Record) → length (wordsOf r) ≡ 16
 sixteen (Record.Plain r) = refl

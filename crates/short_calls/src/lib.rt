@@ -1,15 +1,25 @@
 // Syndrome words of the short form (HSR) for other languages: read, written, and a short record changed to a long one.
+ghost use mathlib.Core.List.{[], _∷_};
 ghost use mathlib.Core.Path.{_≡_};
+ghost use Rattle.edition.specs.Judge.{refusalMask, refusalCount};
 ghost use Rattle.short.specs.Reading.{readOf};
 ghost use Rattle.short.specs.Writing.{writeOf};
 ghost use Rattle.short_words.specs.Reading.{recordOf};
 ghost use Rattle.short_calls.specs.Calls.{ReadWords, WrittenWords, WidenedWords};
 ghost use Rattle.widen.specs.Widening.{widenOf};
+use edition::Refusal;
 use short::Read;
 use short::Written;
 use short_record::Hsr;
 use short_words::record_of;
 use short_words::words_of;
+
+// The mask and the count that a refusal carries.
+fn editions_of(refusal: Refusal) -> [u32; 2]
+    ensures { λ e. ⌜ e ≡ refusalMask refusal ∷ refusalCount refusal ∷ [] ⌝ }
+{
+    [edition::mask(refusal), edition::count(refusal)]
+}
 
 // Reads a syndrome word.
 #[no_mangle]
@@ -29,7 +39,7 @@ pub extern "C" fn knucklepin_hsr_read_raw(
         }
         Read::Refused(refusal) => {
             *syndrome = [0u32; 16];
-            *editions = [edition::mask(refusal), edition::count(refusal)];
+            *editions = editions_of(refusal);
             edition::number(refusal)
         }
     }
@@ -53,7 +63,7 @@ pub extern "C" fn knucklepin_hsr_write_raw(
         }
         Written::Refused(refusal) => {
             *hsr = 0;
-            *editions = [edition::mask(refusal), edition::count(refusal)];
+            *editions = editions_of(refusal);
             edition::number(refusal)
         }
     }

@@ -2,7 +2,7 @@
 // SCTLR, VBAR, TTBCR, and the three marks, each of them set where its word isn't 0.
 ghost use mathlib.Core.Path.{_≡_};
 ghost use mathlib.Core.List.{_++_};
-ghost use lib.ListN.{take, drop};
+ghost use lib.ListN.{length, take, drop};
 ghost use Rattle.state_words.specs.Words.{isMark, savedOf, faultsOf, marksOf, stateOf, wordsOf};
 use exception::FaultRegisters;
 use exception::Guest;
@@ -78,7 +78,7 @@ pub fn state_of(words: [u32; 48]) -> Guest
 }
 
 fn with_registers(words: [u32; 48], regs: [u32; 31]) -> [u32; 48]
-    ensures { λ r. ⌜ r ≡ regs ++ drop 31 words ⌝ }
+    ensures { λ r. ⌜ (length regs ≡ 31) × (r ≡ regs ++ drop 31 words) ⌝ }
 {
     let mut after = words;
     let mut i = 0;

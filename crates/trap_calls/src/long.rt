@@ -1,9 +1,12 @@
 // Syndrome words (ESR).
+ghost use mathlib.Core.List.{[], _∷_};
 ghost use mathlib.Core.Path.{_≡_};
+ghost use Rattle.edition.specs.Judge.{refusalMask, refusalCount};
 ghost use Rattle.syndrome.specs.Reading.{readOf};
 ghost use Rattle.syndrome.specs.Writing.{writeOf};
 ghost use Rattle.record_words.specs.Reading.{recordOf};
 ghost use Rattle.trap_calls.specs.Calls.{originOf, ReadWords, WrittenWords};
+use edition::Refusal;
 use record::Esr;
 use record::Origin;
 use record_words::record_of;
@@ -20,6 +23,13 @@ pub(crate) fn origin_of(origin: u32) -> Origin
     } else {
         Origin::AArch64
     }
+}
+
+// The mask and the count that a refusal carries.
+fn editions_of(refusal: Refusal) -> [u32; 2]
+    ensures { λ e. ⌜ e ≡ refusalMask refusal ∷ refusalCount refusal ∷ [] ⌝ }
+{
+    [edition::mask(refusal), edition::count(refusal)]
 }
 
 // Reads a syndrome word.
@@ -41,7 +51,7 @@ pub extern "C" fn knucklepin_esr_read_raw(
         }
         Read::Refused(refusal) => {
             *syndrome = [0u32; 16];
-            *editions = [edition::mask(refusal), edition::count(refusal)];
+            *editions = editions_of(refusal);
             edition::number(refusal)
         }
     }
@@ -66,7 +76,7 @@ pub extern "C" fn knucklepin_esr_write_raw(
         }
         Written::Refused(refusal) => {
             *esr = 0;
-            *editions = [edition::mask(refusal), edition::count(refusal)];
+            *editions = editions_of(refusal);
             edition::number(refusal)
         }
     }
