@@ -1,4 +1,11 @@
+-- `onward_calls::knucklepin_step_over` meets its contract: answer and words are those of the call by value.
+-- Assumes nothing.
 use borrow.Author.Needs.{needs}
+use mathlib.Core.Path.{_≡_, ap, ap₂, _∙_}
+use denote.Ref.{now}
+use Rattle.step.specs.declared.over.SteppedOver.{SteppedOver}
+use Rattle.step.specs.Over.{stepNumber, steppedOver}
+use Rattle.state_words.specs.Words.{wordsOf}
 use Rattle.onward_calls.proofs.knucklepin_step_over.Statement.{statement}
 use Rattle.onward_calls.proofs.knucklepin_step_over.Tie as tie
 
@@ -18,7 +25,16 @@ number-requires : tie.Need-number-requires
 number-requires c κs = search needs
 
 returns : tie.Need-returns
-returns c = ?
+returns c =
+    let call = c .before .before .before in
+    let w = now (call .before .before .before .before .before .args .state) in
+    let same =
+        call .step-over .ensures .result
+        ∙ ap₂ steppedOver (call .before .before .before .state-of .ensures) (call .before .record-of .ensures) in
+    record {
+      answer = c .number .ensures ∙ ap (λ (x : SteppedOver). stepNumber (x .answer)) same;
+      words = c .before .words-of .ensures ∙ ap (λ (x : SteppedOver). wordsOf w (x .state)) same;
+    }
 
 pub knucklepin-step-over-spec : {M : Type 1} → statement M
 knucklepin-step-over-spec =
