@@ -166,6 +166,11 @@ impl Form {
         }
     }
 
+    /// The base of a word of this form; a literal's isn't among its fields.
+    pub fn base(&self, word: u32) -> Option<u32> {
+        self.row.field('n', word)
+    }
+
     /// The letters of its fields, in the order of a row of numbers.
     pub fn letters(&self) -> &'static str {
         self.addressing.letters()

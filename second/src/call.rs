@@ -7,9 +7,10 @@ use crate::device::{finish, Access};
 use crate::form::{Form, Record};
 use crate::guest::{inject, Fault, Injection, State};
 use crate::long::{Origin, AARCH64, LONG};
+use crate::onward::{access, coprocess, passes, step_over};
 use crate::pending::Run;
 use crate::short::SHORT;
-use crate::status::{from_spsr, is_mode, Marks};
+use crate::status::{from_spsr, is_mode, Marks, Status};
 use crate::syndrome::{read, word_to_look_up, write, Refusal};
 use crate::trap::{read_both, read_trap, Intermediate, Registers, Trap};
 use crate::widen::{mapped, widen, widened};
@@ -107,6 +108,29 @@ pub enum Call {
         word: u32,
         state: State,
     },
+    /// Whether a condition passes in a status word.
+    Passes {
+        status: u32,
+        record: Record,
+    },
+    /// By value or on a state that is lent, as the next two.
+    Step {
+        lent: bool,
+        state: State,
+        record: Record,
+    },
+    Coprocess {
+        lent: bool,
+        values: [u32; 2],
+        state: State,
+        record: Record,
+    },
+    Access {
+        lent: bool,
+        word: u32,
+        values: [u32; 16],
+        state: State,
+    },
 }
 
 /// A proved program that answers rows: its name, and the words of its calls.
@@ -132,7 +156,12 @@ pub const A32: Checker = Checker { name: "check_a32", calls: &["decode", "encode
 
 pub const RUNS: Checker = Checker { name: "check_runs", calls: &["run", "runlent"] };
 
-pub const CHECKERS: [Checker; 4] = [WORDS, STATES, A32, RUNS];
+pub const ONWARD: Checker = Checker {
+    name: "check_onward",
+    calls: &["passes", "step", "stepin", "copro", "coproin", "perform", "perfin"],
+};
+
+pub const CHECKERS: [Checker; 5] = [WORDS, STATES, A32, RUNS, ONWARD];
 
 impl Checker {
     /// Whether a line begins with the word of one of its calls.
@@ -239,6 +268,38 @@ impl Call {
                 let state = State::from_numbers(state)?;
                 Some(Call::Describe { word: narrow(*word)?, state })
             }
+            (b"passes", [status, record @ ..]) => {
+                let record = Record::from_row(&LONG, record)?;
+                Some(Call::Passes { status: narrow(*status)?, record })
+            }
+            (b"step" | b"stepin", rest) => {
+                let (state, record) = rest.split_at_checked(48)?;
+                Some(Call::Step {
+                    lent: name == b"stepin",
+                    state: State::from_numbers(state)?,
+                    record: Record::from_row(&LONG, record)?,
+                })
+            }
+            (b"copro" | b"coproin", &[first, second, ref rest @ ..]) => {
+                let (state, record) = rest.split_at_checked(48)?;
+                Some(Call::Coprocess {
+                    lent: name == b"coproin",
+                    values: [narrow(first)?, narrow(second)?],
+                    state: State::from_numbers(state)?,
+                    record: Record::from_row(&LONG, record)?,
+                })
+            }
+            (b"perform" | b"perfin", [word, rest @ ..]) => {
+                let (values, state) = rest.split_at_checked(16)?;
+                let values =
+                    values.iter().map(|&value| narrow(value)).collect::<Option<Vec<_>>>()?;
+                Some(Call::Access {
+                    lent: name == b"perfin",
+                    word: narrow(*word)?,
+                    values: values.try_into().ok()?,
+                    state: State::from_numbers(state)?,
+                })
+            }
             _ => None,
         }
     }
@@ -290,6 +351,20 @@ impl Call {
             Call::Decode { word } => ("decode", row![*word]),
             Call::Encode { fields } => ("encode", fields.row()),
             Call::Describe { word, state } => ("access", [row![*word], state.numbers()].concat()),
+            Call::Passes { status, record } => ("passes", [row![*status], record.row()].concat()),
+            Call::Step { lent, state, record } => {
+                let name = if *lent { "stepin" } else { "step" };
+                (name, [state.numbers(), record.row()].concat())
+            }
+            Call::Coprocess { lent, values: [first, second], state, record } => {
+                let name = if *lent { "coproin" } else { "copro" };
+                (name, [row![*first, *second], state.numbers(), record.row()].concat())
+            }
+            Call::Access { lent, word, values, state } => {
+                let name = if *lent { "perfin" } else { "perform" };
+                let values = values.iter().map(|&value| value.into()).collect();
+                (name, [row![*word], values, state.numbers()].concat())
+            }
         };
         format!("{name} {}", text(&numbers))
     }
@@ -303,7 +378,11 @@ impl Call {
             Call::Write { origin, record, .. } | Call::Carry { origin, record, .. } => {
                 words.long(*origin).extend(record.word());
             }
-            Call::Finish { record, .. } => words.aarch32.extend(record.word()),
+            Call::Finish { record, .. }
+            | Call::Step { record, .. }
+            | Call::Coprocess { record, .. } => {
+                words.aarch32.extend(record.word());
+            }
             Call::Trap { origin, edition, registers } => {
                 words.long(*origin).extend(looked_up(origin.form(), *edition, registers.esr));
             }
@@ -328,7 +407,9 @@ impl Call {
             | Call::Run { .. }
             | Call::Decode { .. }
             | Call::Encode { .. }
-            | Call::Describe { .. } => {}
+            | Call::Describe { .. }
+            | Call::Passes { .. }
+            | Call::Access { .. } => {}
         }
     }
 
@@ -406,8 +487,38 @@ impl Call {
                 let described = a32::describe(forms, state, *word).map_err(Refusal::plain);
                 answered(described.map(|(fields, effect)| access_row(&fields, &effect)))
             }
+            Call::Passes { status, record } => {
+                row![passes(&Status::unpack(*status), record)]
+            }
+            Call::Step { state, record, .. } => match step_over(aarch32, state, record) {
+                Ok(after) => [row![0u8], state.changes_to(&after)].concat(),
+                Err(refusal) => row![refusal],
+            },
+            Call::Coprocess { values, state, record, .. } => {
+                match coprocess(aarch32, state, record, *values) {
+                    Ok((given, after)) => {
+                        let padded = [0, 1].map(|i| given.get(i).copied().unwrap_or(0));
+                        let given = row![given.len() as u64, padded[0], padded[1]];
+                        [row![0u8], given, state.changes_to(&after)].concat()
+                    }
+                    Err(refusal) => row![refusal, 0u8, 0u8, 0u8],
+                }
+            }
+            Call::Access { word, values, state, .. } => match access(forms, state, *word, values) {
+                Ok(done) => {
+                    let head = row![0u8, done.stored, done.addresses.len() as u64];
+                    let lists = [sixteen(&done.addresses), sixteen(&done.values)].concat();
+                    [head, lists, state.changes_to(&done.state)].concat()
+                }
+                Err(refusal) => [row![refusal, 0u8, 0u8], sixteen(&[]), sixteen(&[])].concat(),
+            },
         }
     }
+}
+
+/// Numbers in sixteen places, 0 after the last.
+fn sixteen(numbers: &[u32]) -> Vec<u64> {
+    (0..16).map(|place| numbers.get(place).copied().unwrap_or(0).into()).collect()
 }
 
 /// The words that answers look up, by form.

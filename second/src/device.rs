@@ -92,7 +92,7 @@ fn number_of(bytes: &[u8]) -> u32 {
 
 /// The manual's ITAdvance: where IT[2:0] is 000 the block ends, else IT[4:0] moves
 /// up by one, and IT[7:5] stays.
-fn it_advance(it: u8) -> u8 {
+pub fn it_advance(it: u8) -> u8 {
     let (base, mask) = (it / 32, it % 32);
     if it.is_multiple_of(8) {
         0

@@ -17,6 +17,7 @@ mod guest;
 mod log;
 mod log_runs;
 mod long;
+mod onward;
 #[cfg(any(feature = "compare", test))]
 mod ordinary;
 mod pending;

@@ -2,7 +2,7 @@
 //! compared with what this program answers. No contract reaches what a program
 //! reads and writes.
 
-use crate::call::{self, A32, RUNS, STATES, WORDS};
+use crate::call::{self, A32, ONWARD, RUNS, STATES, WORDS};
 use crate::catalogue::Catalogue;
 use crate::log;
 use crate::log_runs;
@@ -24,13 +24,14 @@ struct Program {
     inputs: fn() -> Vec<(String, Vec<u8>)>,
 }
 
-const PROGRAMS: [Program; 6] = [
+const PROGRAMS: [Program; 7] = [
     Program { name: "trapread", answers: trapread, inputs: trapread_inputs },
     Program { name: "logread", answers: logread, inputs: log_runs::inputs },
     Program { name: WORDS.name, answers: |input| WORDS.answers(input), inputs: words_inputs },
     Program { name: STATES.name, answers: |input| STATES.answers(input), inputs: states_inputs },
     Program { name: A32.name, answers: |input| A32.answers(input), inputs: a32_inputs },
     Program { name: RUNS.name, answers: |input| RUNS.answers(input), inputs: runs_inputs },
+    Program { name: ONWARD.name, answers: |input| ONWARD.answers(input), inputs: onward_inputs },
 ];
 
 /// Runs the programs of a folder; true when all wrote what they must.
@@ -270,7 +271,10 @@ fn row_inputs(
         ("a last line of a space", format!("{first}\n ")),
         (
             "rows of every program",
-            format!("read 0 0 92000005\nheld 13 d\ndecode e5910004\nrun{} 0 0\n", " 0".repeat(48)),
+            format!(
+                "read 0 0 92000005\nheld 13 d\ndecode e5910004\nrun{} 0 0\npasses 10 5 1 1 0\n",
+                " 0".repeat(48)
+            ),
         ),
     ];
     let mut inputs: Vec<(String, Vec<u8>)> =
@@ -313,6 +317,12 @@ fn random_state(random: &mut Random) -> Vec<u64> {
 fn a32_inputs() -> Vec<(String, Vec<u8>)> {
     row_inputs(["decode e5910004", "decode 0"], |random| {
         format!("decode {:x}", 0xe400_0000 + random.below(0x400_0000))
+    })
+}
+
+fn onward_inputs() -> Vec<(String, Vec<u8>)> {
+    row_inputs(["passes 10 1 1 1 e 1", "passes 40000010 5 1 1 1"], |random| {
+        format!("passes {:x} 5 1 {:x} {:x}", random.word(), random.below(2), random.below(16))
     })
 }
 

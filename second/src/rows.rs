@@ -7,6 +7,7 @@ mod finish;
 mod inject;
 mod malformed;
 mod nests;
+mod onward;
 mod pending;
 mod read;
 mod samples;
@@ -42,7 +43,8 @@ fn questions() -> Vec<String> {
         .chain(a32::questions())
         .chain(pending::questions())
         .chain(inject::domain_questions())
-        .chain(nests::questions());
+        .chain(nests::questions())
+        .chain(onward::questions());
     let calls: Vec<Call> = calls.collect();
     let joined = derived(&calls);
     let origins = questions_of_origins();
@@ -241,6 +243,13 @@ mod tests {
             ("access", 500, "0 9 13"),
             ("run", 900, "0 9 a"),
             ("runlent", 200, "0 9 a"),
+            ("passes", 800, "0 1"),
+            ("step", 400, "0 5 9 12"),
+            ("stepin", 60, "0 5 9 12"),
+            ("copro", 700, "0 5 9 12"),
+            ("coproin", 100, "0 5 9 12"),
+            ("perform", 500, "0 9 13"),
+            ("perfin", 70, "0 9 13"),
         ];
         let files = files().expect("the cases of the paper");
         let mut given: BTreeMap<String, (usize, BTreeSet<String>)> = BTreeMap::new();

@@ -7,4 +7,6 @@ mod value;
 
 pub use access::Access;
 pub use access::access_in;
+pub use place::back;
 pub use registers::registers_of;
+pub use value::value_of;

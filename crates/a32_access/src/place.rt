@@ -18,7 +18,7 @@ fn up(f: Fields) -> bool
 }
 
 // Whether the base is written back.
-fn back(f: Fields) -> bool
+pub fn back(f: Fields) -> bool
     ensures { λ yes. ⌜ yes ≡ backOf f ⌝ }
 {
     match f {

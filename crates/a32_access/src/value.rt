@@ -13,7 +13,7 @@ fn program_counter(pc: u32) -> u32
 }
 
 // A register of the mode.
-pub(crate) fn value_of(regs: [u32; 31], pc: u32, mode: u32, number: u32) -> u32
+pub fn value_of(regs: [u32; 31], pc: u32, mode: u32, number: u32) -> u32
     ensures { λ r. ⌜ r ≡ valueOf regs pc mode number ⌝ }
 {
     if number == 15 {

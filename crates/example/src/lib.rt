@@ -24,7 +24,7 @@ pub enum Next {
     Resume,
     // So it does, and the card gets this value.
     Give(u32),
-    // The monitor makes this access for the guest; `a32_access::registers_of` tells its registers in transfer order.
+    // The card is asked for what this access loads, in transfer order, and then `a32_finish::finish` goes on.
     Perform(Access),
     // Nothing was done: the refusal's number.
     Refused(u32),

@@ -14,6 +14,11 @@ use record::Record;
 use resume::resume;
 use signed::Signed;
 
+// Those that go on after a trap, in the same way.
+pub use onward::a32_finish_in_place;
+pub use onward::coprocessor_in_place;
+pub use onward::step_over_in_place;
+
 // Injects into the state where it lies: answer and state are those of the call by value, on a refusal too.
 pub fn inject_in_place(state: &mut Guest, what: Injection) -> guest::Answer
     ensures { λ r. ⌜ Promise (now (state .entry)) what (record { answer = r; state = now (state .exit) }) ⌝ }

@@ -133,7 +133,7 @@ fn plain_state(status: u32, pc: u32) -> State {
 }
 
 /// Instructions in states.
-fn accesses() -> Vec<(u32, State)> {
+pub fn accesses() -> Vec<(u32, State)> {
     let mut accesses = every_form();
     accesses.extend(modes());
     accesses.extend(ends());
