@@ -1,9 +1,15 @@
 // A32 loads and stores as words: the number of a form, and what an access does as sixteen words.
 ghost use mathlib.Core.Path.{_≡_};
-ghost use Rattle.a32_words.specs.Words.{transferNumber, formNumber, fieldsWords, accessWords};
+ghost use Rattle.a32_words.specs.Words.{transferNumber, formNumber, immediateAfter, registerAfter, literalAfter, multipleAfter};
+ghost use Rattle.a32_words.specs.Words.{fieldsAfter, shapeWords, accessWords};
 use a32_access::Access;
 use a32_fields::Fields;
+use a32_fields::Immediate;
+use a32_fields::Literal;
+use a32_fields::Multiple;
+use a32_fields::Register;
 use a32_fields::Transfer;
+use a32_transfer::Shape;
 use a32_transfer::shape_of;
 use signed::sum;
 
@@ -45,61 +51,90 @@ pub fn form_number(f: Fields) -> u32
     }
 }
 
-// The form, and then COND, P, U, W, Rn, Rt, the immediate, Rm and the list; what a form lacks is 0.
-fn fields_words(f: Fields) -> [u32; 10]
-    ensures { λ w. ⌜ w ≡ fieldsWords f ⌝ }
+// COND, P, U, W, Rn, Rt, the immediate, Rm and the list; what a form lacks is 0.
+fn immediate_after(r: Immediate) -> [u32; 9]
+    ensures { λ w. ⌜ w ≡ immediateAfter r ⌝ }
 {
-    let form = form_number(f);
+    [
+        r.cond,
+        r.p as u32,
+        r.u as u32,
+        r.w as u32,
+        r.rn,
+        r.rt,
+        r.imm,
+        0,
+        0,
+    ]
+}
+
+fn register_after(r: Register) -> [u32; 9]
+    ensures { λ w. ⌜ w ≡ registerAfter r ⌝ }
+{
+    [
+        r.cond,
+        r.p as u32,
+        r.u as u32,
+        r.w as u32,
+        r.rn,
+        r.rt,
+        0,
+        r.rm,
+        0,
+    ]
+}
+
+fn literal_after(r: Literal) -> [u32; 9]
+    ensures { λ w. ⌜ w ≡ literalAfter r ⌝ }
+{
+    [r.cond, 0, r.u as u32, 0, 0, r.rt, r.imm, 0, 0]
+}
+
+fn multiple_after(r: Multiple) -> [u32; 9]
+    ensures { λ w. ⌜ w ≡ multipleAfter r ⌝ }
+{
+    [
+        r.cond,
+        r.p as u32,
+        r.u as u32,
+        r.w as u32,
+        r.rn,
+        0,
+        0,
+        0,
+        r.list,
+    ]
+}
+
+fn fields_after(f: Fields) -> [u32; 9]
+    ensures { λ w. ⌜ w ≡ fieldsAfter f ⌝ }
+{
     match f {
-        Fields::Immediate(r) => [
-            form,
-            r.cond,
-            r.p as u32,
-            r.u as u32,
-            r.w as u32,
-            r.rn,
-            r.rt,
-            r.imm,
-            0,
-            0,
-        ],
-        Fields::Register(r) => [
-            form,
-            r.cond,
-            r.p as u32,
-            r.u as u32,
-            r.w as u32,
-            r.rn,
-            r.rt,
-            0,
-            r.rm,
-            0,
-        ],
-        Fields::Literal(r) => [form, r.cond, 0, r.u as u32, 0, 0, r.rt, r.imm, 0, 0],
-        Fields::Multiple(r) => [
-            form,
-            r.cond,
-            r.p as u32,
-            r.u as u32,
-            r.w as u32,
-            r.rn,
-            0,
-            0,
-            0,
-            r.list,
-        ],
+        Fields::Immediate(r) => immediate_after(r),
+        Fields::Register(r) => register_after(r),
+        Fields::Literal(r) => literal_after(r),
+        Fields::Multiple(r) => multiple_after(r),
     }
 }
 
-// The fields, what the instruction moves, the number of its registers, the first address, and the change of the base modulo 2^32.
+fn shape_words(shape: Shape) -> [u32; 3]
+    ensures { λ w. ⌜ w ≡ shapeWords shape ⌝ }
+{
+    [shape.load as u32, shape.sas, shape.sse as u32]
+}
+
+// The form, its fields, what the instruction moves, the number of its registers, the first address, and the change of the base modulo 2^32.
 pub fn access_words(access: Access) -> [u32; 16]
     ensures { λ w. ⌜ w ≡ accessWords access ⌝ }
 {
     let f = access.fields;
     let change = access.change;
-    let shape = shape_of(f);
-    let w = fields_words(f);
+    let form = form_number(f);
+    let w = fields_after(f);
+    let moved = shape_words(shape_of(f));
+    let added = sum(0, change);
     [
+        form,
         w[0],
         w[1],
         w[2],
@@ -109,12 +144,11 @@ pub fn access_words(access: Access) -> [u32; 16]
         w[6],
         w[7],
         w[8],
-        w[9],
-        shape.load as u32,
-        shape.sas,
-        shape.sse as u32,
+        moved[0],
+        moved[1],
+        moved[2],
         access.count,
         access.address,
-        sum(0, change),
+        added,
     ]
 }
