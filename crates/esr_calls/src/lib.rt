@@ -1,11 +1,11 @@
-// Syndrome words (ESR).
+// Syndrome words (ESR) for other languages: read and written, with records in sixteen words that the caller lends.
 ghost use mathlib.Core.List.{[], _∷_};
 ghost use mathlib.Core.Path.{_≡_};
 ghost use Rattle.edition.specs.Judge.{refusalMask, refusalCount};
 ghost use Rattle.syndrome.specs.Reading.{readOf};
 ghost use Rattle.syndrome.specs.Writing.{writeOf};
 ghost use Rattle.record_words.specs.Reading.{recordOf};
-ghost use Rattle.trap_calls.specs.Calls.{originOf, ReadWords, WrittenWords};
+ghost use Rattle.esr_calls.specs.Calls.{originOf, ReadWords, WrittenWords};
 use edition::Refusal;
 use record::Esr;
 use record::Origin;
@@ -15,7 +15,7 @@ use syndrome::Read;
 use syndrome::Written;
 
 // 0 is AArch32, and every other number AArch64.
-pub(crate) fn origin_of(origin: u32) -> Origin
+pub fn origin_of(origin: u32) -> Origin
     ensures { λ o. ⌜ o ≡ originOf origin ⌝ }
 {
     if origin == 0 {

@@ -1,12 +1,12 @@
--- `trap_calls::whole::addresses_in` meets its contract.
+-- `trap_calls::addresses_in` meets its contract.
 -- Assumes nothing.
 use borrow.Author.Needs.{needs}
 use mathlib.Core.Path.{refl}
 use mathlib.Core.List.{[], _∷_}
 use Rattle.bits.proofs.Arms.{at-arm}
 use Rattle.trap_calls.specs.Whole.{addressesIn}
-use Rattle.trap_calls.proofs.whole.addresses_in.Statement.{statement}
-use Rattle.trap_calls.proofs.whole.addresses_in.Tie as tie
+use Rattle.trap_calls.proofs.addresses_in.Statement.{statement}
+use Rattle.trap_calls.proofs.addresses_in.Tie as tie
 
 enum-known-trap : tie.Need-enum-known-trap
 enum-known-trap c = search needs

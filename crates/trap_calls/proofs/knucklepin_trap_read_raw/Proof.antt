@@ -1,4 +1,4 @@
--- `trap_calls::whole::knucklepin_trap_read_raw` meets its contract: each arm's words are those of the reader's answer.
+-- `trap_calls::knucklepin_trap_read_raw` meets its contract: each arm's words are those of the reader's answer.
 -- Assumes nothing.
 use borrow.Author.Needs.{needs}
 use mathlib.Core.Path.{_≡_, refl, sym, subst, ap, _∙_}
@@ -11,10 +11,10 @@ use Rattle.address.specs.declared.Hpfar.{Hpfar}
 use Rattle.record_words.specs.Words.{wordsOf}
 use Rattle.trap.specs.Answer.{answerOf}
 use Rattle.trap.specs.declared.Answer.{Answer}
-use Rattle.trap_calls.specs.Calls.{originOf}
+use Rattle.esr_calls.specs.Calls.{originOf}
 use Rattle.trap_calls.specs.Whole.{TrapWords}
-use Rattle.trap_calls.proofs.whole.knucklepin_trap_read_raw.Statement.{statement}
-use Rattle.trap_calls.proofs.whole.knucklepin_trap_read_raw.Tie as tie
+use Rattle.trap_calls.proofs.knucklepin_trap_read_raw.Statement.{statement}
+use Rattle.trap_calls.proofs.knucklepin_trap_read_raw.Tie as tie
 
 -- what holds of the answer that was matched holds of the definition's
 at-answer : (n e : ℕ) (esr : Esr) (far : Far) (hpfar : Hpfar) {o : Origin} {m : ℕ} {w k v l : List ℕ} {a b : Answer} → o ≡ originOf n

@@ -1,4 +1,4 @@
--- `trap_calls::long::knucklepin_esr_write_raw` meets its contract: each arm's words are those of the writer's answer.
+-- `esr_calls::knucklepin_esr_write_raw` meets its contract: each arm's words are those of the writer's answer.
 -- Assumes nothing.
 use borrow.Author.Needs.{needs}
 use mathlib.Core.Path.{_≡_, refl, sym, subst, ap₂, _∙_}
@@ -10,9 +10,9 @@ use Rattle.record.specs.declared.kinds.Record.{Record}
 use Rattle.record_words.specs.Reading.{recordOf}
 use Rattle.syndrome.specs.Writing.{writeOf}
 use Rattle.syndrome.specs.declared.answer.Written.{Written}
-use Rattle.trap_calls.specs.Calls.{originOf, WrittenWords}
-use Rattle.trap_calls.proofs.long.knucklepin_esr_write_raw.Statement.{statement}
-use Rattle.trap_calls.proofs.long.knucklepin_esr_write_raw.Tie as tie
+use Rattle.esr_calls.specs.Calls.{originOf, WrittenWords}
+use Rattle.esr_calls.proofs.knucklepin_esr_write_raw.Statement.{statement}
+use Rattle.esr_calls.proofs.knucklepin_esr_write_raw.Tie as tie
 
 -- what holds of the answer that was matched holds of the definition's
 at-answer : (n e : ℕ) (w : List ℕ) {o : Origin} {r : Record} {m esr : ℕ} {l : List ℕ} {a b : Written} → o ≡ originOf n

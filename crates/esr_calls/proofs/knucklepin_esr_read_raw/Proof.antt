@@ -1,4 +1,4 @@
--- `trap_calls::long::knucklepin_esr_read_raw` meets its contract: each arm's words are those of the reader's answer.
+-- `esr_calls::knucklepin_esr_read_raw` meets its contract: each arm's words are those of the reader's answer.
 -- Assumes nothing.
 use borrow.Author.Needs.{needs}
 use mathlib.Core.Path.{_≡_, refl, sym, subst, ap, _∙_}
@@ -8,9 +8,9 @@ use Rattle.record.specs.declared.origin.Origin.{Origin}
 use Rattle.record.specs.declared.kinds.Esr.{Esr}
 use Rattle.syndrome.specs.Reading.{readOf}
 use Rattle.syndrome.specs.declared.answer.Read.{Read}
-use Rattle.trap_calls.specs.Calls.{originOf, ReadWords}
-use Rattle.trap_calls.proofs.long.knucklepin_esr_read_raw.Statement.{statement}
-use Rattle.trap_calls.proofs.long.knucklepin_esr_read_raw.Tie as tie
+use Rattle.esr_calls.specs.Calls.{originOf, ReadWords}
+use Rattle.esr_calls.proofs.knucklepin_esr_read_raw.Statement.{statement}
+use Rattle.esr_calls.proofs.knucklepin_esr_read_raw.Tie as tie
 
 -- what holds of the answer that was matched holds of the definition's
 at-answer : (n e : ℕ) (esr : Esr) {o : Origin} {m : ℕ} {w l : List ℕ} {a b : Read} → o ≡ originOf n → a ≡ readOf o e esr → a ≡ b

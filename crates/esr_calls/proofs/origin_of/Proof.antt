@@ -1,8 +1,8 @@
--- `trap_calls::long::origin_of` meets its contract.
+-- `esr_calls::origin_of` meets its contract.
 -- Assumes nothing.
 use borrow.Author.Tests.{eq-eqb, ne-eqb}
-use Rattle.trap_calls.proofs.long.origin_of.Statement.{statement}
-use Rattle.trap_calls.proofs.long.origin_of.Tie as tie
+use Rattle.esr_calls.proofs.origin_of.Statement.{statement}
+use Rattle.esr_calls.proofs.origin_of.Tie as tie
 
 returns : tie.Need-returns
 returns c = simp (eq-eqb _ _ (c .if1 .taken))

@@ -1,11 +1,11 @@
--- `trap_calls::whole::known_in` meets its contract.
+-- `trap_calls::known_in` meets its contract.
 -- Assumes nothing.
 use borrow.Author.Needs.{needs}
 use mathlib.Core.List.{[], _∷_}
 use Rattle.bits.proofs.Arms.{at-arm}
 use Rattle.trap_calls.specs.Whole.{knownIn}
-use Rattle.trap_calls.proofs.whole.known_in.Statement.{statement}
-use Rattle.trap_calls.proofs.whole.known_in.Tie as tie
+use Rattle.trap_calls.proofs.known_in.Statement.{statement}
+use Rattle.trap_calls.proofs.known_in.Tie as tie
 
 enum-known-trap : tie.Need-enum-known-trap
 enum-known-trap c = search needs
