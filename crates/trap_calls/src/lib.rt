@@ -2,8 +2,8 @@
 ghost use mathlib.Core.Path.{_≡_};
 ghost use Rattle.trap.specs.Answer.{answerOf};
 ghost use Rattle.esr_calls.specs.Calls.{originOf};
-ghost use Rattle.trap_calls.specs.Whole.{syndromeIn, knownIn, addressesIn, virtualKnown, virtualWord, intermediateKnown, intermediateWord};
-ghost use Rattle.trap_calls.specs.Whole.{TrapWords};
+ghost use Rattle.trap_calls.specs.Whole.{syndromeIn, knownIn, addressesIn, virtualKnown, virtualWord, intermediateKnown};
+ghost use Rattle.trap_calls.specs.Whole.{intermediateWord, TrapWords};
 use address::Far;
 use address::Hpfar;
 use address::IntermediateAddress;
