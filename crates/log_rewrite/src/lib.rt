@@ -8,6 +8,7 @@ ghost use Rattle.log_rewrite.specs.Rewrite.{Taken, Rewriting};
 mod entries;
 mod labelled;
 
+pub use labelled::write;
 use log::Read;
 use log_writer::Written;
 

@@ -60,7 +60,8 @@ fn same(a: Kind, b: Kind) -> bool
     code(a) == code(b)
 }
 
-fn neighbour(kind: Kind, after: bool) -> Kind
+// The one after a kind in the round, or the one before it.
+pub fn neighbour(kind: Kind, after: bool) -> Kind
     ensures { λ r. ⌜ r ≡ neighbour kind after ⌝ }
 {
     match kind {

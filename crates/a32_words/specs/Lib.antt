@@ -1,0 +1,2 @@
+-- A32 loads and stores as words.
+pub mod Words

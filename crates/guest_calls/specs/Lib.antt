@@ -1,0 +1,3 @@
+-- Exceptions of a guest by numbers and words.
+pub mod Asked
+pub mod Calls

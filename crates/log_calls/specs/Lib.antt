@@ -1,0 +1,2 @@
+-- Trap logs read, looked at and written, with answers in numbers.
+pub mod Calls

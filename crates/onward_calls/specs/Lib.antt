@@ -1,0 +1,2 @@
+-- Going on from a trap, in a state of words.
+pub mod Calls

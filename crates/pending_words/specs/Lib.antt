@@ -1,0 +1,2 @@
+-- A queue of waiting interrupts as a number.
+pub mod Number

@@ -1,0 +1,3 @@
+-- Records of the short form as sixteen words.
+pub mod Words
+pub mod Reading

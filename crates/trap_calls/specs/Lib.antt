@@ -1,0 +1,2 @@
+-- Whole traps read with records in words.
+pub mod Whole
