@@ -8,8 +8,8 @@ use Rattle.status.specs.declared.Held.{Held}
 use Rattle.status.specs.Register.{heldIn}
 use Rattle.state_words.specs.Words.{isMark}
 
--- the faults by number: a level, where there is one, is a byte, and what is larger counts as 255; a number that is no fault's stands for one
--- that can't be written, since no fault has level 0 (01: 11)
+-- the faults by number: a level, where there is one, is a byte, and what is larger counts as 255; a number that is no fault's stands for
+-- one that can't be written, since no fault has level 0 (01: 11)
 abbrev pub noFault : Fault
 noFault = Fault.Translation 0
 

@@ -3,11 +3,10 @@ ghost use mathlib.Core.Path.{_≡_};
 ghost use Rattle.record.specs.declared.origin.Origin.{Origin};
 ghost use Rattle.knucklepin.specs.Packed.{packedRefusal, packedRead, rewritten};
 ghost use Rattle.knucklepin.specs.Short.{packedShortRead, rewrittenShort};
-ghost use Rattle.knucklepin.specs.A32.{transferNumber, formNumber, a32Form, rewrittenA32};
-use a32_fields::Fields;
-use a32_fields::Transfer;
+ghost use Rattle.knucklepin.specs.A32.{a32Form, rewrittenA32};
 use a32_rule::Decoded;
 use a32_rule::Encoded;
+use a32_words::form_number;
 use edition::Refusal;
 use record::Esr;
 use record::Origin;
@@ -107,43 +106,6 @@ pub extern "C" fn knucklepin_short_rewrite(reader: u32, writer: u32, word: u32) 
     }
 }
 
-fn transfer_number(transfer: Transfer) -> u8
-    ensures { λ n. ⌜ n ≡ transferNumber transfer ⌝ }
-{
-    match transfer {
-        Transfer::Ldr => 0,
-        Transfer::Str => 1,
-        Transfer::Ldrb => 2,
-        Transfer::Strb => 3,
-        Transfer::Ldrh => 4,
-        Transfer::Strh => 5,
-        Transfer::Ldrsb => 6,
-        Transfer::Ldrsh => 7,
-        Transfer::Ldrd => 8,
-        Transfer::Strd => 9,
-    }
-}
-
-fn form_number(f: Fields) -> u64
-    ensures { λ n. ⌜ n ≡ formNumber f ⌝ }
-{
-    match f {
-        Fields::Immediate(r) => {
-            let transfer = r.transfer;
-            transfer_number(transfer) as u64
-        }
-        Fields::Register(r) => {
-            let transfer = r.transfer;
-            16 + transfer_number(transfer) as u64
-        }
-        Fields::Literal(r) => {
-            let transfer = r.transfer;
-            32 + transfer_number(transfer) as u64
-        }
-        Fields::Multiple(r) => { if r.load { 49 } else { 48 } }
-    }
-}
-
 // The form of a word that is an A32 load or store: its transfer's number, and 16 more with a register, 32 for a literal; 48 for STM and 49
 // for LDM. All ones where the word is none.
 #[no_mangle]
@@ -151,7 +113,7 @@ pub extern "C" fn knucklepin_a32_form(word: u32) -> u64
     ensures { λ n. ⌜ n ≡ a32Form word ⌝ }
 {
     match a32_rule::decode(word) {
-        Decoded::Taken(f) => form_number(f),
+        Decoded::Taken(f) => form_number(f) as u64,
         Decoded::Refused => REFUSED,
     }
 }

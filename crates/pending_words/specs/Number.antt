@@ -1,5 +1,5 @@
--- A queue as a number (02, C-19, for callers without lists): two bits for each kind that waits, the oldest in the lowest, and zeros above the
--- youngest.
+-- A queue as a number (02, C-19, for callers without lists): two bits for each kind that waits, the oldest in the lowest, and zeros above
+-- the youngest.
 use Prim.Native.Nat.{ℕ, zero, suc, _+_, _*_, _/_, _%_}
 use mathlib.Core.Bool.{cond}
 use mathlib.Core.List.{List, [], _∷_}

@@ -1,4 +1,5 @@
-// A queue of waiting interrupts as a number: two bits for each kind that waits, the oldest in the lowest. 1 is an abort, 2 an FIQ, 3 an IRQ.
+// A queue of waiting interrupts as a number: two bits for each kind that waits, the oldest in the lowest. 1 is an abort, 2 an FIQ and 3 an
+// IRQ.
 ghost use mathlib.Core.Path.{_≡_};
 ghost use Rattle.pending.specs.declared.Queue.{Queue};
 ghost use Rattle.pending.specs.Reading.{listOf};

@@ -36,13 +36,46 @@ abbrev pub wfxIn : List ℕ → Wfx
 wfxIn w = record { il = flagIn w 1; cv = flagIn w 2; cond = wordIn w 3; ti = flagIn w 4 }
 
 abbrev pub mcrIn : List ℕ → Mcr
-mcrIn w = record { class = wordIn w 1; il = flagIn w 2; cv = flagIn w 3; cond = wordIn w 4; opc2 = wordIn w 5; opc1 = wordIn w 6; crn = wordIn w 7; rt = wordIn w 8; crm = wordIn w 9; direction = flagIn w 10 }
+mcrIn w =
+    record {
+      class = wordIn w 1;
+      il = flagIn w 2;
+      cv = flagIn w 3;
+      cond = wordIn w 4;
+      opc2 = wordIn w 5;
+      opc1 = wordIn w 6;
+      crn = wordIn w 7;
+      rt = wordIn w 8;
+      crm = wordIn w 9;
+      direction = flagIn w 10;
+    }
 
 abbrev pub mcrrIn : List ℕ → Mcrr
-mcrrIn w = record { class = wordIn w 1; il = flagIn w 2; cv = flagIn w 3; cond = wordIn w 4; opc1 = wordIn w 5; rt2 = wordIn w 6; rt = wordIn w 7; crm = wordIn w 8; direction = flagIn w 9 }
+mcrrIn w =
+    record {
+      class = wordIn w 1;
+      il = flagIn w 2;
+      cv = flagIn w 3;
+      cond = wordIn w 4;
+      opc1 = wordIn w 5;
+      rt2 = wordIn w 6;
+      rt = wordIn w 7;
+      crm = wordIn w 8;
+      direction = flagIn w 9;
+    }
 
 abbrev pub ldcIn : List ℕ → Ldc
-ldcIn w = record { il = flagIn w 1; cv = flagIn w 2; cond = wordIn w 3; imm8 = wordIn w 4; rn = wordIn w 5; offset = flagIn w 6; am = wordIn w 7; direction = flagIn w 8 }
+ldcIn w =
+    record {
+      il = flagIn w 1;
+      cv = flagIn w 2;
+      cond = wordIn w 3;
+      imm8 = wordIn w 4;
+      rn = wordIn w 5;
+      offset = flagIn w 6;
+      am = wordIn w 7;
+      direction = flagIn w 8;
+    }
 
 abbrev pub simdIn : List ℕ → Simd
 simdIn w = record { il = flagIn w 1; cv = flagIn w 2; cond = wordIn w 3 }
@@ -54,10 +87,34 @@ abbrev pub smcIn : List ℕ → Smc
 smcIn w = record { il = flagIn w 1; cv = flagIn w 2; cond = wordIn w 3; ccknownpass = flagIn w 4 }
 
 abbrev pub instructionAbortIn : List ℕ → InstructionAbort
-instructionAbortIn w = record { il = flagIn w 1; set = wordIn w 2; fnv = flagIn w 3; ea = flagIn w 4; s1ptw = flagIn w 5; code = wordIn w 6 }
+instructionAbortIn w =
+    record {
+      il = flagIn w 1;
+      set = wordIn w 2;
+      fnv = flagIn w 3;
+      ea = flagIn w 4;
+      s1ptw = flagIn w 5;
+      code = wordIn w 6;
+    }
 
 abbrev pub dataAbortIn : List ℕ → DataAbort
-dataAbortIn w = record { il = flagIn w 1; isv = flagIn w 2; sas = wordIn w 3; sse = flagIn w 4; srt = wordIn w 5; sf = flagIn w 6; ar = flagIn w 7; set = wordIn w 8; fnv = flagIn w 9; ea = flagIn w 10; cm = flagIn w 11; s1ptw = flagIn w 12; wnr = flagIn w 13; code = wordIn w 14 }
+dataAbortIn w =
+    record {
+      il = flagIn w 1;
+      isv = flagIn w 2;
+      sas = wordIn w 3;
+      sse = flagIn w 4;
+      srt = wordIn w 5;
+      sf = flagIn w 6;
+      ar = flagIn w 7;
+      set = wordIn w 8;
+      fnv = flagIn w 9;
+      ea = flagIn w 10;
+      cm = flagIn w 11;
+      s1ptw = flagIn w 12;
+      wnr = flagIn w 13;
+      code = wordIn w 14;
+    }
 
 abbrev pub debugIn : List ℕ → Debug
 debugIn w = record { class = wordIn w 1; il = flagIn w 2 }
@@ -72,9 +129,19 @@ abbrev pub serrorIn : List ℕ → SError
 serrorIn w = record { il = flagIn w 1; aet = wordIn w 2; ea = flagIn w 3; code = wordIn w 4 }
 
 abbrev pub systemIn : List ℕ → System
-systemIn w = record { il = flagIn w 1; op0 = wordIn w 2; op2 = wordIn w 3; op1 = wordIn w 4; crn = wordIn w 5; rt = wordIn w 6; crm = wordIn w 7; direction = flagIn w 8 }
+systemIn w =
+    record {
+      il = flagIn w 1;
+      op0 = wordIn w 2;
+      op2 = wordIn w 3;
+      op1 = wordIn w 4;
+      crn = wordIn w 5;
+      rt = wordIn w 6;
+      crm = wordIn w 7;
+      direction = flagIn w 8;
+    }
 
--- class 64: EC has six bits (`none-has-it`, crate traps_in_words: no edition has it)
+-- class 64: EC has six bits (`none-has-it`, crate esr_calls: no edition has it)
 abbrev pub noRecord : Record
 noRecord = Record.Plain (record { class = 64; il = true })
 

@@ -21,7 +21,7 @@ use Rattle.record.specs.declared.kinds.SError.{SError}
 use Rattle.record.specs.declared.kinds.System.{System}
 use Rattle.record.specs.declared.kinds.Record.{Record}
 
--- a flag is 1, or 0 where it is false (`flag-true` and `flag-false`, proofs/RoundTrip.antt): what the language makes of a bool
+-- a flag is 1, or 0 where it is false (`flag-true` and `flag-false`, proofs/Alike.antt): what the language makes of a bool
 abbrev pub flag : Bool → ℕ
 flag b = boolByte b
 
@@ -35,7 +35,8 @@ abbrev pub wfxWords : Wfx → List ℕ
 wfxWords r = 1 ∷ flag (r .il) ∷ flag (r .cv) ∷ r .cond ∷ flag (r .ti) ∷ zeros 11
 
 abbrev pub mcrWords : Mcr → List ℕ
-mcrWords r = 2 ∷ r .class ∷ flag (r .il) ∷ flag (r .cv) ∷ r .cond ∷ r .opc2 ∷ r .opc1 ∷ r .crn ∷ r .rt ∷ r .crm ∷ flag (r .direction) ∷ zeros 5
+mcrWords r =
+    2 ∷ r .class ∷ flag (r .il) ∷ flag (r .cv) ∷ r .cond ∷ r .opc2 ∷ r .opc1 ∷ r .crn ∷ r .rt ∷ r .crm ∷ flag (r .direction) ∷ zeros 5
 
 abbrev pub mcrrWords : Mcrr → List ℕ
 mcrrWords r = 3 ∷ r .class ∷ flag (r .il) ∷ flag (r .cv) ∷ r .cond ∷ r .opc1 ∷ r .rt2 ∷ r .rt ∷ r .crm ∷ flag (r .direction) ∷ zeros 6
@@ -56,7 +57,9 @@ abbrev pub instructionAbortWords : InstructionAbort → List ℕ
 instructionAbortWords r = 8 ∷ flag (r .il) ∷ r .set ∷ flag (r .fnv) ∷ flag (r .ea) ∷ flag (r .s1ptw) ∷ r .code ∷ zeros 9
 
 abbrev pub dataAbortWords : DataAbort → List ℕ
-dataAbortWords r = 9 ∷ flag (r .il) ∷ flag (r .isv) ∷ r .sas ∷ flag (r .sse) ∷ r .srt ∷ flag (r .sf) ∷ flag (r .ar) ∷ r .set ∷ flag (r .fnv) ∷ flag (r .ea) ∷ flag (r .cm) ∷ flag (r .s1ptw) ∷ flag (r .wnr) ∷ r .code ∷ zeros 1
+dataAbortWords r =
+    9 ∷ flag (r .il) ∷ flag (r .isv) ∷ r .sas ∷ flag (r .sse) ∷ r .srt ∷ flag (r .sf) ∷ flag (r .ar) ∷ r .set ∷ flag (r .fnv)
+    ∷ flag (r .ea) ∷ flag (r .cm) ∷ flag (r .s1ptw) ∷ flag (r .wnr) ∷ r .code ∷ zeros 1
 
 abbrev pub debugWords : Debug → List ℕ
 debugWords r = 10 ∷ r .class ∷ flag (r .il) ∷ zeros 13

@@ -1,5 +1,5 @@
--- Reading and writing a word of the short form, and the change of a record to the long form: the answer of the call by value, as numbers and
--- words. A refusal carries no record and no word, and only 6 a mask and a count.
+-- Reading and writing a word of the short form, and the change of a record to the long form: the answer of the call by value, as numbers
+-- and words. A refusal carries no record and no word, and only 6 a mask and a count.
 use Prim.Native.Nat.{ℕ}
 use mathlib.Core.Path.{_≡_}
 use mathlib.Core.List.{List, [], _∷_}

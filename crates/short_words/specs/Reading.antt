@@ -14,13 +14,46 @@ use Rattle.record_words.specs.Reading.{wordIn, flagIn, plainIn, wfxIn, callIn, 
 use Rattle.short_words.specs.Words.{wordsOf}
 
 abbrev pub mcrIn : List ℕ → Mcr
-mcrIn w = record { class = wordIn w 1; il = flagIn w 2; cv = flagIn w 3; cond = wordIn w 4; opc2 = wordIn w 5; opc1 = wordIn w 6; crn = wordIn w 7; rt = wordIn w 8; crm = wordIn w 9; direction = flagIn w 10 }
+mcrIn w =
+    record {
+      class = wordIn w 1;
+      il = flagIn w 2;
+      cv = flagIn w 3;
+      cond = wordIn w 4;
+      opc2 = wordIn w 5;
+      opc1 = wordIn w 6;
+      crn = wordIn w 7;
+      rt = wordIn w 8;
+      crm = wordIn w 9;
+      direction = flagIn w 10;
+    }
 
 abbrev pub mcrrIn : List ℕ → Mcrr
-mcrrIn w = record { class = wordIn w 1; il = flagIn w 2; cv = flagIn w 3; cond = wordIn w 4; opc1 = wordIn w 5; rt2 = wordIn w 6; rt = wordIn w 7; crm = wordIn w 8; direction = flagIn w 9 }
+mcrrIn w =
+    record {
+      class = wordIn w 1;
+      il = flagIn w 2;
+      cv = flagIn w 3;
+      cond = wordIn w 4;
+      opc1 = wordIn w 5;
+      rt2 = wordIn w 6;
+      rt = wordIn w 7;
+      crm = wordIn w 8;
+      direction = flagIn w 9;
+    }
 
 abbrev pub ldcIn : List ℕ → Ldc
-ldcIn w = record { il = flagIn w 1; cv = flagIn w 2; cond = wordIn w 3; imm8 = wordIn w 4; rn = wordIn w 5; offset = flagIn w 6; am = wordIn w 7; direction = flagIn w 8 }
+ldcIn w =
+    record {
+      il = flagIn w 1;
+      cv = flagIn w 2;
+      cond = wordIn w 3;
+      imm8 = wordIn w 4;
+      rn = wordIn w 5;
+      offset = flagIn w 6;
+      am = wordIn w 7;
+      direction = flagIn w 8;
+    }
 
 abbrev pub simdIn : List ℕ → Simd
 simdIn w = record { il = flagIn w 1; cv = flagIn w 2; cond = wordIn w 3; ta = flagIn w 4; coproc = wordIn w 5 }
@@ -29,7 +62,21 @@ abbrev pub instructionAbortIn : List ℕ → InstructionAbort
 instructionAbortIn w = record { il = flagIn w 1; fnv = flagIn w 2; ea = flagIn w 3; s1ptw = flagIn w 4; code = wordIn w 5 }
 
 abbrev pub dataAbortIn : List ℕ → DataAbort
-dataAbortIn w = record { il = flagIn w 1; isv = flagIn w 2; sas = wordIn w 3; sse = flagIn w 4; srt = wordIn w 5; ar = flagIn w 6; aet = wordIn w 7; ea = flagIn w 8; cm = flagIn w 9; s1ptw = flagIn w 10; wnr = flagIn w 11; code = wordIn w 12 }
+dataAbortIn w =
+    record {
+      il = flagIn w 1;
+      isv = flagIn w 2;
+      sas = wordIn w 3;
+      sse = flagIn w 4;
+      srt = wordIn w 5;
+      ar = flagIn w 6;
+      aet = wordIn w 7;
+      ea = flagIn w 8;
+      cm = flagIn w 9;
+      s1ptw = flagIn w 10;
+      wnr = flagIn w 11;
+      code = wordIn w 12;
+    }
 
 -- class 64: EC has six bits
 abbrev pub noRecord : Record

@@ -11,7 +11,8 @@ use Rattle.short_record.specs.declared.kinds.Record.{Record}
 use Rattle.record_words.specs.Words.{flag, zeros, plainWords, wfxWords, callWords, smcWords}
 
 abbrev pub mcrWords : Mcr → List ℕ
-mcrWords r = 2 ∷ r .class ∷ flag (r .il) ∷ flag (r .cv) ∷ r .cond ∷ r .opc2 ∷ r .opc1 ∷ r .crn ∷ r .rt ∷ r .crm ∷ flag (r .direction) ∷ zeros 5
+mcrWords r =
+    2 ∷ r .class ∷ flag (r .il) ∷ flag (r .cv) ∷ r .cond ∷ r .opc2 ∷ r .opc1 ∷ r .crn ∷ r .rt ∷ r .crm ∷ flag (r .direction) ∷ zeros 5
 
 abbrev pub mcrrWords : Mcrr → List ℕ
 mcrrWords r = 3 ∷ r .class ∷ flag (r .il) ∷ flag (r .cv) ∷ r .cond ∷ r .opc1 ∷ r .rt2 ∷ r .rt ∷ r .crm ∷ flag (r .direction) ∷ zeros 6
@@ -26,7 +27,9 @@ abbrev pub instructionAbortWords : InstructionAbort → List ℕ
 instructionAbortWords r = 8 ∷ flag (r .il) ∷ flag (r .fnv) ∷ flag (r .ea) ∷ flag (r .s1ptw) ∷ r .code ∷ zeros 10
 
 abbrev pub dataAbortWords : DataAbort → List ℕ
-dataAbortWords r = 9 ∷ flag (r .il) ∷ flag (r .isv) ∷ r .sas ∷ flag (r .sse) ∷ r .srt ∷ flag (r .ar) ∷ r .aet ∷ flag (r .ea) ∷ flag (r .cm) ∷ flag (r .s1ptw) ∷ flag (r .wnr) ∷ r .code ∷ zeros 3
+dataAbortWords r =
+    9 ∷ flag (r .il) ∷ flag (r .isv) ∷ r .sas ∷ flag (r .sse) ∷ r .srt ∷ flag (r .ar) ∷ r .aet ∷ flag (r .ea) ∷ flag (r .cm)
+    ∷ flag (r .s1ptw) ∷ flag (r .wnr) ∷ r .code ∷ zeros 3
 
 abbrev pub wordsOf : Record → List ℕ
 wordsOf (Record.Plain r) = plainWords r

@@ -1,3 +1,2 @@
--- Syndrome words and whole traps, read and written with records in words.
-pub mod Calls
+-- Whole traps read with records in words.
 pub mod Whole

@@ -16,6 +16,9 @@ enum-known-f c = search needs
 form-number-requires : tie.Need-form-number-requires
 form-number-requires c κs = search needs
 
+cast-result : tie.Need-cast-result
+cast-result c = search needs
+
 enum-told : tie.Need-enum-told
 enum-told c = search needs
 
@@ -27,4 +30,4 @@ returns-2 : tie.Need-returns-2
 returns-2 c = at-arm formOr refl (sym (c .before .before .decode .ensures .answer) ∙ c .enum-told .given .1)
 
 pub knucklepin-a32-form-spec : {M : Type 1} → statement M
-knucklepin-a32-form-spec = tie.close (tie.spec decode-requires enum-known-f form-number-requires enum-told returns returns-2)
+knucklepin-a32-form-spec = tie.close (tie.spec decode-requires enum-known-f form-number-requires cast-result enum-told returns returns-2)

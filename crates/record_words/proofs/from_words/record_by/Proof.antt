@@ -7,7 +7,8 @@ use borrow.Author.Tests.{ne-eqb}
 use Prim.Native.Nat.{ℕ}
 use Rattle.bits.proofs.Among.{OfArm, arm-each}
 use Rattle.record.specs.declared.kinds.Record.{Record}
-use Rattle.record_words.specs.Reading.{plainIn, wfxIn, mcrIn, mcrrIn, ldcIn, simdIn, callIn, smcIn, instructionAbortIn, dataAbortIn, debugIn, stepIn, watchpointIn, serrorIn, systemIn, recordBy}
+use Rattle.record_words.specs.Reading.{plainIn, wfxIn, mcrIn, mcrrIn, ldcIn, simdIn, callIn, smcIn, instructionAbortIn}
+use Rattle.record_words.specs.Reading.{dataAbortIn, debugIn, stepIn, watchpointIn, serrorIn, systemIn, recordBy}
 use Rattle.record_words.proofs.from_words.record_by.Statement.{statement}
 use Rattle.record_words.proofs.from_words.record_by.Tie as tie
 

@@ -1,0 +1,2 @@
+-- Syndrome words read and written with records in words.
+pub mod Calls
