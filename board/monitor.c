@@ -107,16 +107,16 @@ static void described_by_chip(struct knucklepin_state *state, const struct knuck
 }
 
 /* The instruction word describes it, if it is one of A32's loads and stores and stays within the card's page. */
-static bool described_by_word(struct knucklepin_state *state, const struct knucklepin_addresses *at)
+static bool described_by_word(struct knucklepin_state *state, uint32_t address)
 {
     const uint32_t *word = guest_pointer(state->pc);
-    uint32_t page = (uint32_t)at->virtual_address & -PAGE;
+    uint32_t page = address & -PAGE;
     uint32_t offset, bytes;
     struct knucklepin_access access;
-    struct knucklepin_values values = {{0}};
     struct knucklepin_transfer transfer;
+    struct knucklepin_list registers, addresses, given, values = {{0}};
 
-    if (word == NULL || knucklepin_a32_describe(state, *word, &access) != KNUCKLEPIN_TAKEN)
+    if (word == NULL || knucklepin_a32_describe(state, *word, &access, &registers) != KNUCKLEPIN_TAKEN)
         return false;
     offset = access.address - page;
     bytes = UINT32_C(1) << access.sas;
@@ -124,9 +124,9 @@ static bool described_by_word(struct knucklepin_state *state, const struct knuck
         return false;
     for (uint32_t n = 0; n < access.count && access.load; n++)
         values.word[n] = card_load(offset + 4 * n, bytes);
-    need("a32_finish", knucklepin_a32_finish(state, *word, &values, &transfer));
+    need("a32_finish", knucklepin_a32_finish(state, *word, &values, &transfer, &addresses, &given));
     for (uint32_t n = 0; n < transfer.count && transfer.store; n++)
-        card_store(transfer.addresses[n] - page, bytes, transfer.values[n]);
+        card_store(addresses.word[n] - page, bytes, given.word[n]);
     did("%x, %s %u x %u at %b", *word, access.load ? "load" : "store", access.count, bytes, offset);
     return true;
 }
@@ -192,16 +192,17 @@ static void called(struct knucklepin_state *state, const struct knucklepin_call 
     }
 }
 
-static void data_abort(struct knucklepin_state *state, const struct knucklepin_trap *trap, const struct knucklepin_addresses *at)
+static void data_abort(struct knucklepin_state *state, const struct knucklepin_trap *trap)
 {
-    const struct knucklepin_data_abort *abort = &trap->record.data_abort;
-    bool card = trap->intermediate_known == KNUCKLEPIN_BYTE && (at->intermediate_address & -(uint64_t)PAGE) == CARD;
+    const struct knucklepin_data_abort *abort = &trap->syndrome.data_abort;
+    const struct knucklepin_addresses *at = &trap->addresses;
+    bool card = trap->known.intermediate_known == KNUCKLEPIN_BYTE && (at->intermediate_address & -(uint64_t)PAGE) == CARD;
 
     if (card && abort->cm)
-        stepped_over(state, &trap->record, "cache maintenance");
+        stepped_over(state, &trap->syndrome, "cache maintenance");
     else if (card && abort->isv)
-        described_by_chip(state, &trap->record, (uint32_t)at->intermediate_address % PAGE);
-    else if (!card || !described_by_word(state, at))
+        described_by_chip(state, &trap->syndrome, (uint32_t)at->intermediate_address % PAGE);
+    else if (!card || !described_by_word(state, (uint32_t)at->virtual_address))
         aborted(state, KNUCKLEPIN_DATA_ABORT, at->virtual_address, abort->wnr);
     raise_lines();
 }
@@ -209,14 +210,14 @@ static void data_abort(struct knucklepin_state *state, const struct knucklepin_t
 /* ---- a trap ---- */
 
 /* Reads the trap by the chosen edition. One that this edition hasn't, and others have, is shown with them and read by the first of them. */
-static void read_trap(struct knucklepin_trap *trap, struct knucklepin_addresses *at)
+static void read_trap(struct knucklepin_trap *trap)
 {
     struct knucklepin_esr esr = esr_register();
     struct knucklepin_far far = far_register();
     struct knucklepin_hpfar hpfar = hpfar_register();
     struct knucklepin_editions editions;
     uint32_t first = 0;
-    uint32_t number = knucklepin_trap_read(KNUCKLEPIN_AARCH32, edition, esr, far, hpfar, trap, at, &editions);
+    uint32_t number = knucklepin_trap_read(KNUCKLEPIN_AARCH32, edition, esr, far, hpfar, trap, &editions);
 
     log_trap(esr, far, hpfar);
     if (number == KNUCKLEPIN_OTHER_EDITIONS) {
@@ -228,7 +229,7 @@ static void read_trap(struct knucklepin_trap *trap, struct knucklepin_addresses 
             if (editions.mask >> n & 1)
                 print(" %u", n);
         log_edition(first);
-        number = knucklepin_trap_read(KNUCKLEPIN_AARCH32, first, esr, far, hpfar, trap, at, &editions);
+        number = knucklepin_trap_read(KNUCKLEPIN_AARCH32, first, esr, far, hpfar, trap, &editions);
     }
     need("trap_read", number);
 }
@@ -236,23 +237,23 @@ static void read_trap(struct knucklepin_trap *trap, struct knucklepin_addresses 
 static void answer(struct knucklepin_state *state)
 {
     struct knucklepin_trap trap;
-    struct knucklepin_addresses at;
+    const struct knucklepin_record *record = &trap.syndrome;
 
-    read_trap(&trap, &at);
-    if (!knucklepin_passes(state->status, &trap.record))
-        stepped_over(state, &trap.record, "a condition failed");
-    else if (trap.record.kind == KNUCKLEPIN_KIND_DATA_ABORT)
-        data_abort(state, &trap, &at);
-    else if (trap.record.kind == KNUCKLEPIN_KIND_INSTRUCTION_ABORT || trap.sort == KNUCKLEPIN_TRAP_ADDRESSED)
-        aborted(state, KNUCKLEPIN_PREFETCH_ABORT, at.virtual_address, 0);
-    else if (trap.record.kind == KNUCKLEPIN_KIND_WFX)
-        stepped_over(state, &trap.record, trap.record.wfx.ti ? "WFE" : "WFI");
-    else if (trap.record.kind == KNUCKLEPIN_KIND_MCR)
-        one_register(state, &trap.record);
-    else if (trap.record.kind == KNUCKLEPIN_KIND_MCRR)
-        two_registers(state, &trap.record);
-    else if (trap.record.kind == KNUCKLEPIN_KIND_CALL)
-        called(state, &trap.record.call);
+    read_trap(&trap);
+    if (!knucklepin_passes(state->status, record))
+        stepped_over(state, record, "a condition failed");
+    else if (record->kind == KNUCKLEPIN_KIND_DATA_ABORT)
+        data_abort(state, &trap);
+    else if (record->kind == KNUCKLEPIN_KIND_INSTRUCTION_ABORT || trap.known.sort == KNUCKLEPIN_TRAP_ADDRESSED)
+        aborted(state, KNUCKLEPIN_PREFETCH_ABORT, trap.addresses.virtual_address, 0);
+    else if (record->kind == KNUCKLEPIN_KIND_WFX)
+        stepped_over(state, record, record->wfx.ti ? "WFE" : "WFI");
+    else if (record->kind == KNUCKLEPIN_KIND_MCR)
+        one_register(state, record);
+    else if (record->kind == KNUCKLEPIN_KIND_MCRR)
+        two_registers(state, record);
+    else if (record->kind == KNUCKLEPIN_KIND_CALL)
+        called(state, &record->call);
     else
         undefined(state, KNUCKLEPIN_UNDEFINED_AT);
 }
