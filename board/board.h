@@ -41,7 +41,7 @@ uint32_t card_lines(void);
 /* trap_log.c */
 void log_edition(uint32_t edition);
 void log_trap(struct knucklepin_esr esr, struct knucklepin_far far, struct knucklepin_hpfar hpfar);
-void log_injection(uint32_t injection, uint32_t domain);
+void log_injection(uint32_t injection);
 void log_out(const char *name);
 
 /* host.c */
@@ -49,6 +49,8 @@ void print(const char *format, ...);
 void print_list(const char *format, va_list values);
 void write_file(const char *name, const void *bytes, uint64_t length);
 _Noreturn void leave(uint32_t code);
+
+/* monitor.c */
 _Noreturn void stop(const char *why, uint64_t number);
 
 #endif

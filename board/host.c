@@ -87,9 +87,3 @@ _Noreturn void leave(uint32_t code)
     for (;;)
         host(SYS_EXIT, (uint64_t[]){application_exit, code});
 }
-
-_Noreturn void stop(const char *why, uint64_t number)
-{
-    print("\nmonitor: stopped, %s %x\n", why, (uint32_t)number);
-    leave(1);
-}

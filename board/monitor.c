@@ -44,8 +44,22 @@ static void guest_says(const struct knucklepin_state *state, uint32_t values)
     print("\n");
 }
 
-/* ---- what the library refuses where nothing should be refused ---- */
+/* ---- the end of the run ---- */
 
+static _Noreturn void end(uint32_t code)
+{
+    end_of_line();
+    log_out("trap.log");
+    leave(code);
+}
+
+_Noreturn void stop(const char *why, uint64_t number)
+{
+    did("stops, %s %x", why, (uint32_t)number);
+    end(1);
+}
+
+/* A refusal where the guest's state and trap are what a chip makes. */
 static void need(const char *call, uint32_t number)
 {
     if (number != KNUCKLEPIN_TAKEN)
@@ -57,7 +71,7 @@ static void need(const char *call, uint32_t number)
 static void undefined(struct knucklepin_state *state, uint32_t injection)
 {
     need("inject", knucklepin_inject(state, injection, 0, 0, 0, 0, 0));
-    log_injection(injection, 0);
+    log_injection(injection);
     did("injects undefined instruction");
 }
 
@@ -65,7 +79,7 @@ static void undefined(struct knucklepin_state *state, uint32_t injection)
 static void aborted(struct knucklepin_state *state, uint32_t injection, uint64_t address, uint32_t write)
 {
     need("inject", knucklepin_inject(state, injection, KNUCKLEPIN_FAULT_EXTERNAL, 0, address, write, 0));
-    log_injection(injection, 0);
+    log_injection(injection);
     did("injects %s abort at %x", injection == KNUCKLEPIN_DATA_ABORT ? "data" : "prefetch", (uint32_t)address);
 }
 
@@ -176,9 +190,7 @@ static void called(struct knucklepin_state *state, const struct knucklepin_call 
     if (call->imm16 < SAY_LIMIT) {
         guest_says(state, call->imm16);
     } else if (call->imm16 == END) {
-        end_of_line();
-        log_out("trap.log");
-        leave(0);
+        end(0);
     } else if (call->imm16 == EDITION) {
         state->regs[1] = edition;
         edition = chosen;
@@ -209,6 +221,15 @@ static void data_abort(struct knucklepin_state *state, const struct knucklepin_t
 
 /* ---- a trap ---- */
 
+static uint32_t lowest(uint32_t mask)
+{
+    uint32_t n = 0;
+
+    while (n < 31 && !(mask >> n & 1))
+        n++;
+    return n;
+}
+
 /* Reads the trap by the chosen edition. One that this edition hasn't, and others have, is shown with them and read by the first of them. */
 static void read_trap(struct knucklepin_trap *trap)
 {
@@ -216,21 +237,24 @@ static void read_trap(struct knucklepin_trap *trap)
     struct knucklepin_far far = far_register();
     struct knucklepin_hpfar hpfar = hpfar_register();
     struct knucklepin_editions editions;
-    uint32_t first = 0;
     uint32_t number = knucklepin_trap_read(KNUCKLEPIN_AARCH32, edition, esr, far, hpfar, trap, &editions);
 
-    log_trap(esr, far, hpfar);
     if (number == KNUCKLEPIN_OTHER_EDITIONS) {
+        uint32_t first = lowest(editions.mask);
+
         did("%x refused %u in edition %u, %u editions have it:", (uint32_t)esr.word, number, edition, editions.count);
-        for (uint32_t n = 16; n-- > 0;)
-            if (editions.mask >> n & 1)
-                first = n;
-        for (uint32_t n = 0; n < 16; n++)
+        for (uint32_t n = first; n < 16; n++)
             if (editions.mask >> n & 1)
                 print(" %u", n);
         log_edition(first);
         number = knucklepin_trap_read(KNUCKLEPIN_AARCH32, first, esr, far, hpfar, trap, &editions);
     }
+    /* An address register that tells nothing is UNKNOWN, and isn't kept. */
+    if (number == KNUCKLEPIN_TAKEN && !trap->known.virtual_known)
+        far.word = 0;
+    if (number == KNUCKLEPIN_TAKEN && trap->known.intermediate_known == KNUCKLEPIN_NO_ADDRESS)
+        hpfar.word = 0;
+    log_trap(esr, far, hpfar);
     need("trap_read", number);
 }
 

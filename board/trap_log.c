@@ -20,20 +20,20 @@ void log_edition(uint32_t edition)
         editions[edition_count++] = (uint8_t)edition;
 }
 
-/* The registers as they stand: a log is carried, and its reader judges what counts. */
 void log_trap(struct knucklepin_esr esr, struct knucklepin_far far, struct knucklepin_hpfar hpfar)
 {
     if (trap_count == TRAPS)
-        stop("the log is full at traps", TRAPS);
+        stop("the log is full, traps", TRAPS);
     esrs[trap_count] = esr;
     fars[trap_count] = far;
     hpfars[trap_count++] = hpfar;
 }
 
-void log_injection(uint32_t injection, uint32_t domain)
+/* Its domain, in the upper byte, is 0: the monitor injects no fault that has one. */
+void log_injection(uint32_t injection)
 {
     if (injection_count < TRAPS)
-        injections[injection_count++] = (uint16_t)(injection + 256 * domain);
+        injections[injection_count++] = (uint16_t)injection;
 }
 
 void log_out(const char *name)
@@ -43,8 +43,6 @@ void log_out(const char *name)
     uint32_t number = knucklepin_log_write(editions, edition_count, esrs, trap_count, fars, trap_count, hpfars, trap_count, injections,
                                            injection_count, bytes, sizeof bytes, &length);
 
-    if (number != KNUCKLEPIN_TAKEN)
-        stop("no log was written", number);
     write_file(name, bytes, length);
-    print("monitor: %u traps and %u injections in a log of %u bytes\n", trap_count, injection_count, (uint32_t)length);
+    print("monitor: log of %u traps and %u injections, answer %u, %u bytes\n", trap_count, injection_count, number, (uint32_t)length);
 }
