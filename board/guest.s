@@ -55,10 +55,10 @@ undefined:
 prefetch_abort:
     mrc p15, 0, r1, c5, c0, 1
     mrc p15, 0, r2, c6, c0, 2
-    mrs r3, spsr
-    sub r4, lr, r8
-    say 4, "prefetch abort, IFSR IFAR SPSR link-PC"
-    movs pc, r5
+    sub r3, lr, r8
+    say 3, "prefetch abort, IFSR IFAR link-PC"
+    sub r1, lr, r5              @ to r5
+    hvc #RETURN
 
 data_abort:
     mrc p15, 0, r1, c5, c0, 0
@@ -70,7 +70,8 @@ data_abort:
 
 irq:
     say 0, "in IRQ mode"
-    subs pc, lr, #4
+    mov r1, #4
+    hvc #RETURN
 
 fiq:
     say 0, "in FIQ mode"
@@ -166,7 +167,6 @@ start:
     mov r1, #0
     mcr p15, 0, r1, c2, c0, 2
 
-    own_status
     adr r5, 5f
     bx r8
 5:
@@ -184,18 +184,23 @@ start:
     .arm
 2:
 
-@ Interrupts: IRQ and FIQ wait, and I is masked; FIQ waits again, and F is masked; then neither is.
+@ IRQ and FIQ wait, and I is masked: FIQ comes. FIQ waits again, and F is masked: IRQ comes.
     cpsie f
     own_status
     mov r1, #3
     str r1, [r7, #LINES]
     cpsid f
     cpsie i
-    own_status
     mov r1, #2
     str r1, [r7, #LINES]
-    cpsie f
+
+@ IRQ waits again, and both are masked: nothing comes. Then neither is: FIQ comes, which waited longer, and then IRQ.
+    cpsid i
+    mov r1, #1
+    str r1, [r7, #LINES]
+    cpsie if
     own_status
+    wfi
     wfi
     cpsid if
 

@@ -72,7 +72,7 @@ static void undefined(struct knucklepin_state *state, uint32_t injection)
 {
     need("inject", knucklepin_inject(state, injection, 0, 0, 0, 0, 0));
     log_injection(injection);
-    did("injects undefined instruction");
+    did("injects undefined instruction, status %x", state->status);
 }
 
 /* The guest is told of an external abort: it has no tables that could have caused the fault. */
@@ -80,7 +80,8 @@ static void aborted(struct knucklepin_state *state, uint32_t injection, uint64_t
 {
     need("inject", knucklepin_inject(state, injection, KNUCKLEPIN_FAULT_EXTERNAL, 0, address, write, 0));
     log_injection(injection);
-    did("injects %s abort at %x", injection == KNUCKLEPIN_DATA_ABORT ? "data" : "prefetch", (uint32_t)address);
+    did("injects %s abort at %x, status %x", injection == KNUCKLEPIN_DATA_ABORT ? "data" : "prefetch", (uint32_t)address,
+        state->status);
 }
 
 static void deliver(struct knucklepin_state *state)
@@ -90,7 +91,7 @@ static void deliver(struct knucklepin_state *state)
     do {
         need("deliver", knucklepin_deliver(state, &pending));
         if (pending.delivered != 0)
-            did("delivers %s", names[pending.delivered]);
+            did("delivers %s, status %x", names[pending.delivered], state->status);
     } while (pending.delivered != 0);
 }
 
@@ -117,7 +118,10 @@ static void described_by_chip(struct knucklepin_state *state, const struct knuck
     need("finish", knucklepin_finish(state, record, value, &given));
     if (abort->wnr)
         card_store(offset, bytes, given);
-    did("%s %u at %b", abort->wnr ? "store" : abort->sse ? "signed load" : "load", bytes, offset);
+    if (abort->wnr)
+        did("store %u at %b, %x", bytes, offset, given);
+    else
+        did("%s %u at %b", abort->sse ? "signed load" : "load", bytes, offset);
 }
 
 /* The instruction word describes it, if it is one of A32's loads and stores and stays within the card's page. */
@@ -198,7 +202,7 @@ static void called(struct knucklepin_state *state, const struct knucklepin_call 
         did("reads by edition %u", edition);
     } else if (call->imm16 == RETURN) {
         need("resume", knucklepin_resume(state, chosen));
-        did("returns to status %x", state->status);
+        did("returns, status %x", state->status);
     } else {
         undefined(state, KNUCKLEPIN_UNDEFINED_AFTER);
     }
