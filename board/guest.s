@@ -153,7 +153,24 @@ start:
     wfi
     say 4, "coprocessor registers"
 
+@ The chip's own bits of the status word, through a trap and back.
+    mrs r1, cpsr
+    mrc p15, 0, r2, c0, c1, 0   @ ID_PFR0.DIT
+    tst r2, #0x0f000000
+    orrne r1, r1, #0x00200000
+    mrc p15, 0, r2, c0, c1, 7   @ ID_MMFR3.PAN
+    tst r2, #0x000f0000
+    orrne r1, r1, #0x00400000
+    mrc p15, 0, r2, c0, c3, 4   @ ID_PFR2.SSBS
+    tst r2, #0x000000f0
+    orrne r1, r1, #0x00800000
+    msr cpsr_fsxc, r1
+    ldrb r2, [r7]
+    mrs r2, cpsr
+    say 2, "status before and after a trap"
+
 @ What the monitor answers by an exception.
+    cpsie a
     ldr r8, =NOTHING
     own_status
     adr r6, 3f
@@ -175,11 +192,14 @@ start:
 
     blx 7f
     .thumb
-    .balign 4
-7:  adr r6, 1f
-    nop
-    .balign 4
+7:  adr.w r6, 1f
 1:  hvc #0x777                  @ no service
+    mrs r12, cpsr
+    orr r12, r12, #0x20         @ T, which is read as 0
+    msr spsr_cxsf, r12
+    adr.w r6, 1f
+    nop
+1:  ldrd r2, r3, [r7]           @ in T32 no word is described
     blx 2f
     .arm
 2:

@@ -32,14 +32,20 @@ static void end_of_line(void)
     in_line = false;
 }
 
-/* The text that the guest's r0 points to, and its registers from r1 on. */
+/* The text that the guest's r0 points to, as far as its page goes, and its registers from r1 on. */
 static void guest_says(const struct knucklepin_state *state, uint32_t values)
 {
-    const char *text = guest_pointer(state->regs[0]);
+    const char *from = guest_pointer(state->regs[0]);
+    uint32_t room = PAGE - state->regs[0] % PAGE;
+    char text[64];
+    uint32_t n = 0;
 
+    for (; from != NULL && n < room && n < sizeof text - 1 && from[n] != 0; n++)
+        text[n] = from[n];
+    text[n] = 0;
     end_of_line();
-    print("guest: %s", text == NULL ? "?" : text);
-    for (uint32_t n = 1; n <= values; n++)
+    print("guest: %s", text);
+    for (n = 1; n <= values; n++)
         print(" %x", state->regs[n]);
     print("\n");
 }
@@ -68,11 +74,11 @@ static void need(const char *call, uint32_t number)
 
 /* ---- exceptions of the guest ---- */
 
-static void undefined(struct knucklepin_state *state, uint32_t injection)
+static void excepted(struct knucklepin_state *state, uint32_t injection)
 {
     need("inject", knucklepin_inject(state, injection, 0, 0, 0, 0, 0));
     log_injection(injection);
-    did("injects undefined instruction, status %x", state->status);
+    did("injects %s, status %x", injection == KNUCKLEPIN_SUPERVISOR_CALL ? "supervisor call" : "undefined instruction", state->status);
 }
 
 /* The guest is told of an external abort: it has no tables that could have caused the fault. */
@@ -116,18 +122,19 @@ static void described_by_chip(struct knucklepin_state *state, const struct knuck
     uint32_t given;
 
     need("finish", knucklepin_finish(state, record, value, &given));
-    if (abort->wnr)
+    if (abort->wnr) {
         card_store(offset, bytes, given);
-    if (abort->wnr)
         did("store %u at %b, %x", bytes, offset, given);
-    else
+    } else {
         did("%s %u at %b", abort->sse ? "signed load" : "load", bytes, offset);
+    }
 }
 
-/* The instruction word describes it, if it is one of A32's loads and stores and stays within the card's page. */
+/* The instruction word describes it, if it is one of A32's loads and stores and stays within the card's page. An A32 word is aligned, and in
+   T32 state none is described. */
 static bool described_by_word(struct knucklepin_state *state, uint32_t address)
 {
-    const uint32_t *word = guest_pointer(state->pc);
+    const uint32_t *word = state->pc % 4 == 0 ? guest_pointer(state->pc) : NULL;
     uint32_t page = address & -PAGE;
     uint32_t offset, bytes;
     struct knucklepin_access access;
@@ -164,7 +171,7 @@ static void one_register(struct knucklepin_state *state, const struct knucklepin
     struct knucklepin_pair given;
 
     if (mcr->ec != 0x03 || mcr->opc1 != 0 || mcr->crn != 1 || mcr->crm != 0 || mcr->opc2 != 1) {
-        undefined(state, KNUCKLEPIN_UNDEFINED_AT);
+        excepted(state, KNUCKLEPIN_UNDEFINED_AT);
         return;
     }
     need("coprocessor_finish", knucklepin_coprocessor_finish(state, record, actlr, 0, &given));
@@ -180,31 +187,32 @@ static void two_registers(struct knucklepin_state *state, const struct knucklepi
     struct knucklepin_pair given;
 
     if (mcrr->ec != 0x04 || mcrr->opc1 != 0 || mcrr->crm != 14 || !mcrr->direction) {
-        undefined(state, KNUCKLEPIN_UNDEFINED_AT);
+        excepted(state, KNUCKLEPIN_UNDEFINED_AT);
         return;
     }
     need("coprocessor_finish", knucklepin_coprocessor_finish(state, record, cntpct.first, cntpct.second, &given));
     did("MRRC CNTPCT %x %x", cntpct.first, cntpct.second);
 }
 
-static void called(struct knucklepin_state *state, const struct knucklepin_call *call)
+/* HVC. */
+static void called(struct knucklepin_state *state, uint32_t service)
 {
     uint32_t chosen = state->regs[1];
 
-    if (call->imm16 < SAY_LIMIT) {
-        guest_says(state, call->imm16);
-    } else if (call->imm16 == END) {
+    if (service < SAY_LIMIT) {
+        guest_says(state, service);
+    } else if (service == END) {
         end(0);
-    } else if (call->imm16 == EDITION) {
+    } else if (service == EDITION) {
         state->regs[1] = edition;
         edition = chosen;
         log_edition(edition);
         did("reads by edition %u", edition);
-    } else if (call->imm16 == RETURN) {
+    } else if (service == RETURN) {
         need("resume", knucklepin_resume(state, chosen));
         did("returns, status %x", state->status);
     } else {
-        undefined(state, KNUCKLEPIN_UNDEFINED_AFTER);
+        excepted(state, KNUCKLEPIN_UNDEFINED_AFTER);
     }
 }
 
@@ -225,15 +233,6 @@ static void data_abort(struct knucklepin_state *state, const struct knucklepin_t
 
 /* ---- a trap ---- */
 
-static uint32_t lowest(uint32_t mask)
-{
-    uint32_t n = 0;
-
-    while (n < 31 && !(mask >> n & 1))
-        n++;
-    return n;
-}
-
 /* Reads the trap by the chosen edition. One that this edition hasn't, and others have, is shown with them and read by the first of them. */
 static void read_trap(struct knucklepin_trap *trap)
 {
@@ -244,7 +243,7 @@ static void read_trap(struct knucklepin_trap *trap)
     uint32_t number = knucklepin_trap_read(KNUCKLEPIN_AARCH32, edition, esr, far, hpfar, trap, &editions);
 
     if (number == KNUCKLEPIN_OTHER_EDITIONS) {
-        uint32_t first = lowest(editions.mask);
+        uint32_t first = (uint32_t)__builtin_ctz(editions.mask);
 
         did("%x refused %u in edition %u, %u editions have it:", (uint32_t)esr.word, number, edition, editions.count);
         for (uint32_t n = first; n < 16; n++)
@@ -280,10 +279,12 @@ static void answer(struct knucklepin_state *state)
         one_register(state, record);
     else if (record->kind == KNUCKLEPIN_KIND_MCRR)
         two_registers(state, record);
-    else if (record->kind == KNUCKLEPIN_KIND_CALL)
-        called(state, &record->call);
+    else if (record->kind == KNUCKLEPIN_KIND_CALL && record->call.ec == 0x12)
+        called(state, record->call.imm16);
+    else if (record->kind == KNUCKLEPIN_KIND_CALL && record->call.ec == 0x11)
+        excepted(state, KNUCKLEPIN_SUPERVISOR_CALL);
     else
-        undefined(state, KNUCKLEPIN_UNDEFINED_AT);
+        excepted(state, KNUCKLEPIN_UNDEFINED_AT);
 }
 
 _Noreturn void unexpected(void)

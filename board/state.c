@@ -64,5 +64,5 @@ void registers_from_state(const struct knucklepin_state *state, uint64_t x[31])
     write_FAR_EL1((uint64_t)state->ifar << 32 | state->dfar);
     write_SCTLR_EL1(state->sctlr);
     write_VBAR_EL1(state->vbar);
-    write_TCR_EL1(state->ttbcr);
+    write_TCR_EL1((read_TCR_EL1() & ~UINT64_C(0xFFFFFFFF)) | state->ttbcr); /* TTBCR2 is the upper half */
 }
