@@ -9,7 +9,7 @@
 
 #include "knucklepin.h"
 
-/* Intermediate addresses: the guest's memory, the card's page above it, and a place whose table of stage 2 lies outside the board's memory. */
+/* Intermediate addresses: the guest's memory, the card's page above it, and a place whose table of stage 2 lies outside memory. */
 #define PAGE UINT32_C(0x1000)
 #define GUEST UINT32_C(0x09FFC000)
 #define GUEST_PAGES 4

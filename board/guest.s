@@ -25,8 +25,9 @@ text\@:
 past\@:
     .endm
 
-@ QEMU 7.2 keeps SPSR of the mode that the guest is in where EL2's registers don't reach it, so that in a mode that the monitor enters the guest
-@ finds SPSR of the mode that it left. Where a handler returns by its SPSR, SPSR_svc is the guest's own status before: then both are the same word.
+@ QEMU 7.2 keeps SPSR of the mode that the guest is in where EL2's registers don't reach it, so that in a mode that the monitor enters the
+@ guest finds SPSR of the mode that it left. Before a trap whose handler returns by its own SPSR, SPSR_svc is made the guest's status, so
+@ that both are the same word. The other handlers return by the monitor, which finds what it wrote.
     .macro own_status
     mrs r12, cpsr
     msr spsr_cxsf, r12

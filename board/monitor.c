@@ -130,8 +130,8 @@ static void described_by_chip(struct knucklepin_state *state, const struct knuck
     }
 }
 
-/* The instruction word describes it, if it is one of A32's loads and stores and stays within the card's page. An A32 word is aligned, and in
-   T32 state none is described. */
+/* The instruction word describes it, if it is one of A32's loads and stores and stays within the card's page. An A32 word is aligned, and
+   in T32 state none is described. */
 static bool described_by_word(struct knucklepin_state *state, uint32_t address)
 {
     const uint32_t *word = state->pc % 4 == 0 ? guest_pointer(state->pc) : NULL;

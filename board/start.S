@@ -10,8 +10,8 @@ _start:
     isb
     bl monitor
 
-/* void enter(uint64_t x[31]): the guest runs with these registers, where ELR_EL2 and SPSR_EL2 say, and at its next trap enter returns with
-   the registers that it had. The frame on the stack holds what a C function keeps, and x itself: the trap finds SP as it was at the ERET. */
+/* void enter(uint64_t x[31]): the guest runs with these registers, where ELR_EL2 and SPSR_EL2 say, and at its next trap enter returns
+   with the registers that it had. The stack holds what a C function keeps, and x itself: the trap finds SP as it was at the ERET. */
     .global enter
 enter:
     stp x19, x20, [sp, #-112]!
@@ -67,8 +67,8 @@ trapped:
     ldp x19, x20, [sp], #112
     ret
 
-/* Sixteen entries of 128 bytes. The one at 0x600 is a synchronous exception from a lower level in AArch32, which is every trap of the guest;
-   no other is expected. */
+/* Sixteen entries of 128 bytes. The one at 0x600 is for a synchronous exception from a lower level in AArch32, which every trap of the
+   guest is; no other is expected. */
     .balign 0x800
 vectors:
     .rept 12
