@@ -1,4 +1,4 @@
-/* The chip at EL2: what it is, what it traps, and what it traps with. */
+/* The chip at EL2: its edition and marks, the registers that report a trap, what it traps, and where the guest lies. */
 #include "board.h"
 #include "system.h"
 
@@ -24,7 +24,7 @@ static uint64_t field(uint64_t word, unsigned high, unsigned low)
     return (word >> low) & ((UINT64_C(2) << (high - low)) - 1);
 }
 
-/* RAS; TGran4 or TGran16 with 52 bits; HAFDBS; PARange of 52 bits. */
+/* RAS; TGran4 or TGran16 of 52 bits; HAFDBS; PARange of 52 bits or more. */
 uint32_t chip_edition(void)
 {
     uint64_t mmfr0 = read_ID_AA64MMFR0_EL1();
@@ -79,8 +79,8 @@ static void map_the_guest(void)
     level_2[NO_TABLE >> 21] = outside | table;
 }
 
-/* What is trapped: WFI and WFE, SMC, ACTLR, REVIDR and its like, coprocessor 15's c15, floating point, and the physical counter. RW is 0:
-   the guest is in AArch32. */
+/* What is trapped: WFI and WFE, REVIDR and its like, SMC, IMPLEMENTATION DEFINED registers, ACTLR, floating point, and the physical counter.
+   RW is 0: the guest is in AArch32. */
 void trap_the_guest(void)
 {
     const uint64_t vm = 1, swio = 1 << 1, fmo = 1 << 3, imo = 1 << 4, amo = 1 << 5;
@@ -93,16 +93,18 @@ void trap_the_guest(void)
     write_CNTHCTL_EL2(0);       /* EL1PCTEN 0 */
     write_VTCR_EL2(0x80010060); /* 32 bits of addresses, from level 1; tables are read as they were written, past the caches */
     write_VTTBR_EL2((uintptr_t)level_1);
-    __asm__ volatile("dsb sy; tlbi vmalls12e1; dsb sy; isb");
+    __asm__ volatile("dsb sy; tlbi vmalls12e1; dsb sy; isb" : : : "memory");
 }
 
-/* Where the guest's virtual address lies, by the chip's own walk of both stages; or NULL. */
+/* Where the guest's virtual address lies, by the chip's own walk of both stages; or NULL. PAR is the guest's, and is put back. */
 const void *guest_pointer(uint32_t address)
 {
+    uint64_t guests = read_PAR_EL1();
     uint64_t par;
 
     __asm__ volatile("at s12e1r, %0; isb" : : "r"((uint64_t)address));
     par = read_PAR_EL1();
+    write_PAR_EL1(guests);
     if (par & 1)
         return NULL;
     return (const void *)(uintptr_t)((par & UINT64_C(0x000FFFFFFFFFF000)) | address % PAGE);

@@ -1,4 +1,4 @@
-/* System registers as functions: SYSTEM_REGISTER(X) declares read_X and write_X. */
+/* System registers as functions: SYSTEM_REGISTER(X); defines read_X and write_X. What is asserted is true, and takes the semicolon. */
 #ifndef SYSTEM_H
 #define SYSTEM_H
 
