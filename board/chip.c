@@ -79,7 +79,7 @@ static void map_the_guest(void)
     level_2[NO_TABLE >> 21] = outside | table;
 }
 
-/* What is trapped: WFI and WFE, REVIDR and its like, SMC, IMPLEMENTATION DEFINED registers, ACTLR, floating point, and the physical counter.
+/* What is trapped: WFI and WFE, REVIDR and its like, SMC, IMPLEMENTATION DEFINED registers, ACTLR, floating point, the physical counter.
    RW is 0: the guest is in AArch32. */
 void trap_the_guest(void)
 {
