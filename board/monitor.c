@@ -194,8 +194,7 @@ static void two_registers(struct knucklepin_state *state, const struct knucklepi
     did("MRRC CNTPCT %x %x", cntpct.first, cntpct.second);
 }
 
-/* HVC. */
-static void called(struct knucklepin_state *state, uint32_t service)
+static void serve(struct knucklepin_state *state, uint32_t service)
 {
     uint32_t chosen = state->regs[1];
 
@@ -214,6 +213,15 @@ static void called(struct knucklepin_state *state, uint32_t service)
     } else {
         excepted(state, KNUCKLEPIN_UNDEFINED_AFTER);
     }
+}
+
+/* PC is past an HVC, and past an SVC. */
+static void called(struct knucklepin_state *state, const struct knucklepin_call *call)
+{
+    if (call->ec == 0x12)
+        serve(state, call->imm16);
+    else
+        excepted(state, call->ec == 0x11 ? KNUCKLEPIN_SUPERVISOR_CALL : KNUCKLEPIN_UNDEFINED_AT);
 }
 
 static void data_abort(struct knucklepin_state *state, const struct knucklepin_trap *trap)
@@ -261,30 +269,39 @@ static void read_trap(struct knucklepin_trap *trap)
     need("trap_read", number);
 }
 
+/* What is no trap of these kinds, or has nothing to go on from, is an undefined instruction to the guest. */
 static void answer(struct knucklepin_state *state)
 {
     struct knucklepin_trap trap;
     const struct knucklepin_record *record = &trap.syndrome;
 
     read_trap(&trap);
-    if (!knucklepin_passes(state->status, record))
+    if (!knucklepin_passes(state->status, record)) {
         stepped_over(state, record, "a condition failed");
-    else if (record->kind == KNUCKLEPIN_KIND_DATA_ABORT)
-        data_abort(state, &trap);
-    else if (record->kind == KNUCKLEPIN_KIND_INSTRUCTION_ABORT || trap.known.sort == KNUCKLEPIN_TRAP_ADDRESSED)
-        aborted(state, KNUCKLEPIN_PREFETCH_ABORT, trap.addresses.virtual_address, 0);
-    else if (record->kind == KNUCKLEPIN_KIND_WFX)
+        return;
+    }
+    switch (record->kind) {
+    case KNUCKLEPIN_KIND_WFX:
         stepped_over(state, record, record->wfx.ti ? "WFE" : "WFI");
-    else if (record->kind == KNUCKLEPIN_KIND_MCR)
+        break;
+    case KNUCKLEPIN_KIND_MCR:
         one_register(state, record);
-    else if (record->kind == KNUCKLEPIN_KIND_MCRR)
+        break;
+    case KNUCKLEPIN_KIND_MCRR:
         two_registers(state, record);
-    else if (record->kind == KNUCKLEPIN_KIND_CALL && record->call.ec == 0x12)
-        called(state, record->call.imm16);
-    else if (record->kind == KNUCKLEPIN_KIND_CALL && record->call.ec == 0x11)
-        excepted(state, KNUCKLEPIN_SUPERVISOR_CALL);
-    else
+        break;
+    case KNUCKLEPIN_KIND_CALL:
+        called(state, &record->call);
+        break;
+    case KNUCKLEPIN_KIND_INSTRUCTION_ABORT:
+        aborted(state, KNUCKLEPIN_PREFETCH_ABORT, trap.addresses.virtual_address, 0);
+        break;
+    case KNUCKLEPIN_KIND_DATA_ABORT:
+        data_abort(state, &trap);
+        break;
+    default:
         excepted(state, KNUCKLEPIN_UNDEFINED_AT);
+    }
 }
 
 _Noreturn void unexpected(void)
