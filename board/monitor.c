@@ -269,7 +269,7 @@ static void read_trap(struct knucklepin_trap *trap)
     need("trap_read", number);
 }
 
-/* What is no trap of these kinds, or has nothing to go on from, is an undefined instruction to the guest. */
+/* Kinds that the monitor has no answer for, SMC and floating point among them, are undefined instructions to the guest. */
 static void answer(struct knucklepin_state *state)
 {
     struct knucklepin_trap trap;
@@ -281,6 +281,12 @@ static void answer(struct knucklepin_state *state)
         return;
     }
     switch (record->kind) {
+    case KNUCKLEPIN_KIND_PLAIN:
+        if (record->plain.ec == 0x22)
+            aborted(state, KNUCKLEPIN_PREFETCH_ABORT, trap.addresses.virtual_address, 0);
+        else
+            excepted(state, KNUCKLEPIN_UNDEFINED_AT);
+        break;
     case KNUCKLEPIN_KIND_WFX:
         stepped_over(state, record, record->wfx.ti ? "WFE" : "WFI");
         break;
