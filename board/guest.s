@@ -75,7 +75,11 @@ irq:
     hvc #RETURN
 
 fiq:
-    say 0, "in FIQ mode"
+    mov r9, #CARD
+    ldr r8, [r9], #4            @ R8 and R9 of FIQ mode
+    mov r1, r8
+    mov r2, r9
+    say 2, "in FIQ mode, R8 R9"
     subs pc, lr, #4
 
 start:
@@ -125,9 +129,10 @@ start:
 
 @ The chip doesn't (ISV 0).
     mov r6, r7
-    ldmia r6!, {r1-r3}
-    sub r4, r6, r7
-    say 4, "LDM with write-back"
+    ldmia r6!, {r1-r3, lr}
+    mov r4, lr
+    sub r5, r6, r7
+    say 5, "LDM with write-back"
 
     add r6, r7, #0x2c
     stmdb r6!, {r1-r3}
@@ -139,7 +144,7 @@ start:
     bl near_card
     mov r1, r2
     mov r2, r3
-    say 2, "LDRD literal"
+    say 2, "LDRD literal, big-endian"
 
     mvn r1, #0
     cmp r7, r7
@@ -239,9 +244,11 @@ start:
     hvc #END
     .ltorg
 
-@ At 0x09FFFFC0, and so PC is 0x09FFFFC8 and the place CARD + 8.
+@ From 0x09FFFFC0: PC of the load is 0x09FFFFCC, and its place is CARD + 8.
     .section .near, "ax"
     .arm
 near_card:
-    ldrd r2, r3, [pc, #0x40]
+    setend be
+    ldrd r2, r3, [pc, #0x3c]
+    setend le
     bx lr
