@@ -34,6 +34,7 @@ void trap_the_guest(void);
 const void *guest_pointer(uint32_t address);
 
 /* card.c */
+void card_power_on(void);
 uint32_t card_load(uint32_t offset, uint32_t bytes);
 void card_store(uint32_t offset, uint32_t bytes, uint32_t value);
 uint32_t card_lines(void);

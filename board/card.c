@@ -6,13 +6,11 @@
 
 static uint8_t valves[VALVES];
 static uint32_t lines;
-static bool powered;
 
-static void power_on(void)
+void card_power_on(void)
 {
-    for (uint32_t n = 0; n < VALVES && !powered; n++)
+    for (uint32_t n = 0; n < VALVES; n++)
         valves[n] = (uint8_t)(0x80 + n);
-    powered = true;
 }
 
 /* The card's bytes stand the lowest first; where it has none it gives 0, and takes what comes. */
@@ -20,7 +18,6 @@ uint32_t card_load(uint32_t offset, uint32_t bytes)
 {
     uint32_t value = 0;
 
-    power_on();
     for (uint32_t n = 0; n < bytes && offset + n < VALVES; n++)
         value |= (uint32_t)valves[offset + n] << 8 * n;
     return value;
@@ -28,7 +25,6 @@ uint32_t card_load(uint32_t offset, uint32_t bytes)
 
 void card_store(uint32_t offset, uint32_t bytes, uint32_t value)
 {
-    power_on();
     for (uint32_t n = 0; n < bytes && offset + n < VALVES; n++)
         valves[offset + n] = (uint8_t)(value >> 8 * n);
     if (offset == LINES)

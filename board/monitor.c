@@ -325,6 +325,7 @@ _Noreturn void monitor(void)
     log_edition(edition);
     chip_marks(&state);
     print("monitor: edition %u, PAN %u, SSBS %u, DIT %u\n", edition, state.pan, state.ssbs, state.dit);
+    card_power_on();
     trap_the_guest();
     for (;;) {
         registers_from_state(&state, x);
