@@ -1,0 +1,130 @@
+// Reads lines from standard input, each an edition and a syndrome word, and writes what reading the word in that edition answers, of a trap
+// from AArch32.
+//
+// Input and lines may have any length: a chunk of the input is held at a time, and of a line what `line` keeps of it. The answers to a
+// chunk are written before the next one is read.
+ghost use mathlib.Core.Path.{_≡_};
+ghost use Prim.Native.Nat.{_≤_, _*_};
+ghost use lib.ListN.{length, take};
+ghost use Rattle.io.specs.Counts.{Counts};
+ghost use Rattle.text.specs.Append.{Appends};
+ghost use Rattle.explain.specs.Answer.{answerText};
+ghost use Rattle.explain.specs.Lines.{lineAfter, answersIn, lastText, Answered};
+use address::Far;
+use address::Hpfar;
+use libc::STDIN_FILENO;
+use libc::STDOUT_FILENO;
+use question::Question;
+use question::State;
+use record::Esr;
+use short_record::Hsr;
+
+// Appends the answer to a question.
+fn answer(out: &mut [u8], at: usize, question: Question) -> usize
+    ensures { λ end. ⌜ Appends (answerText question) (now (out .entry)) at (now (out .exit)) end ⌝ }
+{
+    match question {
+        Question::Word { edition, esr } => explain_text::word_said(out, at, edition, Esr(esr)),
+        Question::Trap {
+            edition,
+            esr,
+            far,
+            hpfar,
+        } => explain_text::trap_said(out, at, edition, Esr(esr), Far(far), Hpfar(hpfar)),
+        Question::Short { edition, hsr } => explain_text::short_said(out, at, edition, Hsr(hsr)),
+        Question::None => text::append(out, at, b"no line\n"),
+    }
+}
+
+// The line that a chunk leaves unended, and the end of the answers to those that it ends.
+struct Progress {
+    line: State,
+    end: usize,
+}
+
+// Puts the answers to the lines that end in a chunk into a buffer with room for all of them: no line is shorter than its newline, and no
+// answer longer than 4096 bytes.
+fn answers(out: &mut [u8], chunk: &[u8], before: State) -> Progress
+    requires { ⌜ 4096 * length (now chunk) ≤ length (now out) ⌝ }
+    ensures { λ p. ⌜ p .line ≡ lineAfter before (now (chunk .entry)) ⌝ }
+    ensures { λ p. ⌜ take (p .end) (now (out .exit)) ≡ answersIn before (now (chunk .entry)) ⌝ }
+    ensures { λ p. ⌜ Counts (p .end) (now (out .exit)) ⌝ }
+{
+    let mut line = before;
+    let mut end = 0;
+    let mut i = 0;
+    while i < chunk.len() {
+        let byte = chunk[i];
+        if byte == b'\n' {
+            end = answer(out, end, question::finish(line));
+            line = question::start();
+        } else {
+            line = question::feed(line, byte);
+        }
+        i += 1;
+    }
+    Progress { line, end }
+}
+
+// What a chunk of the input gave: the line that it leaves unended, the end of the answers to those that it ends, and whether it had a byte.
+struct Turn {
+    line: State,
+    end: usize,
+    more: bool,
+}
+
+// Reads a chunk and puts its answers into a buffer. No contract can say which bytes were read.
+fn next_chunk(out: &mut [u8], line: State) -> Turn
+    requires { ⌜ 4096 * 16 ≤ length (now out) ⌝ }
+    ensures { λ t. ⌜ Answered line (t .line) (take (t .end) (now (out .exit))) ⌝ }
+    ensures { λ t. ⌜ Counts (t .end) (now (out .exit)) ⌝ }
+{
+    let mut chunk = [0u8; 16];
+    let got = libc::read(STDIN_FILENO, &mut chunk);
+    let n = io::count(got, &chunk);
+    let p = answers(out, &chunk[..n], line);
+    let end = p.end;
+    let rest = p.line;
+    Turn {
+        line: rest,
+        end,
+        more: n != 0,
+    }
+}
+
+// Appends the answer to the last line to an empty text. It may lack its newline, but what follows the last newline is no line where it is
+// empty.
+fn last(out: &mut [u8], line: State) -> usize
+    ensures { λ end. ⌜ Appends (lastText line) (now (out .entry)) 0 (now (out .exit)) end ⌝ }
+    ensures { λ end. ⌜ Counts end (now (out .exit)) ⌝ }
+{
+    if line.count == 0 {
+        return 0;
+    }
+    answer(out, 0, question::finish(line))
+}
+
+// Writes the text at the start of a buffer. No contract can say what was written.
+fn write(out: &mut [u8], end: usize) -> bool
+    requires { ⌜ Counts end (now out) ⌝ }
+{
+    io::write_all(STDOUT_FILENO, &out[..end])
+}
+
+// A proved loop has to end, and nothing says that the input does: it counts down from a number that no run uses up.
+fn main() {
+    let mut space = io::large_buffer();
+    let out: &mut [u8] = &mut space;
+    let mut line = question::start();
+    let mut turns = u64::MAX;
+    while turns > 0 {
+        let t = next_chunk(out, line);
+        line = t.line;
+        if !(write(out, t.end) & t.more) {
+            break;
+        }
+        turns -= 1;
+    }
+    let end = last(out, line);
+    write(out, end);
+}

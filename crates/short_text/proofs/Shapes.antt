@@ -1,0 +1,58 @@
+-- The rows of each kind of record of the short form are its layout's fields under their names, by the class, bit 24 and the fault code.
+-- Assumes nothing.
+use mathlib.Core.Path.{_≡_, refl}
+use mathlib.Core.Bool.{Bool, true, false, cond}
+use mathlib.Core.List.{List}
+use Prim.Native.Nat.{ℕ, _+_, _*_}
+use lib.Dec.{eqb}
+use Rattle.bits.specs.Field.{digit}
+use Rattle.bits.specs.Layout.{Field}
+use Rattle.bits.proofs.Among.{among-each}
+use Rattle.names.specs.Name.{Name}
+use Rattle.names.specs.Table.{labels, sources, labelAt, valuesAt}
+use Rattle.field_text.specs.Rows.{rowLabels, rowHighs, rowLows, rowLists, rowAt, shapeFirsts, shapeCounts, shapeRows}
+use Rattle.field_text.proofs.Fields.{rowsOf}
+use Rattle.record.specs.Class.{plainClasses, mcrClasses, mcrrClasses}
+use Rattle.record_text.specs.Names.{wfxNames, mcrNames, mcrrNames, ldcNames, callNames, smcNames}
+use Rattle.short_layout.specs.Fields.{fieldsOf}
+use Rattle.short_record.specs.Class.{callClasses, headOf}
+use Rattle.short_record.specs.declared.kinds.Record.{Record}
+use Rattle.short_text.specs.Names.{simdNames, instructionAbortNames, dataAbortNames, namesOf}
+use Rattle.short_text.specs.Inner.{shapeOf}
+
+-- bit 24 as the kind has it
+abbrev pub bitIn : Record → Bool → Bool
+bitIn (Record.Plain r) b = b
+bitIn (Record.Wfx r) b = r .cv
+bitIn (Record.Mcr r) b = r .cv
+bitIn (Record.Mcrr r) b = r .cv
+bitIn (Record.Ldc r) b = r .cv
+bitIn (Record.Simd r) b = r .cv
+bitIn (Record.Call r) b = b
+bitIn (Record.Smc r) b = r .cv
+bitIn (Record.InstructionAbort r) b = b
+bitIn (Record.DataAbort r) b = r .isv
+
+-- the rows of a class are those of names and fields, whatever stands in 5:0 but of a data abort
+abbrev At : ℕ → Bool → ℕ → List Name → List Field → Type 0
+At class b code ns fs = shapeRows (shapeOf class (digit b) code) ≡ rowsOf ns fs
+
+both : (P : Bool → Type 0) → P true → P false → (b : Bool) → P b
+both P yes′ no′ true = yes′
+both P yes′ no′ false = no′
+
+-- the code of a data abort, and of another record anything
+abbrev pub codeIn : Record → ℕ → ℕ
+codeIn (Record.Plain r) code = code
+codeIn (Record.Wfx r) code = code
+codeIn (Record.Mcr r) code = code
+codeIn (Record.Mcrr r) code = code
+codeIn (Record.Ldc r) code = code
+codeIn (Record.Simd r) code = code
+codeIn (Record.Call r) code = code
+codeIn (Record.Smc r) code = code
+codeIn (Record.InstructionAbort r) code = code
+codeIn (Record.DataAbort r) code = r .code
+
+abort : (isv serror : Bool) (fs : List Field) → rowsOf (dataAbortNames true true) fs ≡ rowsOf (dataAbortNames true true) fs
+abort isv serror fs = refl
