@@ -81,28 +81,34 @@ const COUNTS: [u8; 258] = *b"\
     \x00\x00\x00\x00\x0b\x0b\
     ";
 
+fn wide(n: u8) -> u32
+    ensures { λ r. ⌜ r ≡ n ⌝ }
+{
+    n as u32
+}
+
 // The line of row i over a word.
 pub(crate) fn row_line(out: &mut [u8], at: usize, word: u64, i: usize) -> usize
     requires { ⌜ i < 206 ⌝ }
     ensures { λ end. ⌜ Appends (rowText word (rowAt i)) (now (out .entry)) at (now (out .exit)) end ⌝ }
 {
-    let high = HIGHS[i] as u32;
-    let low = LOWS[i] as u32;
-    let label = LABELS[i] as u64;
-    let list = LISTS[i] as u32;
-    field_line(out, at, word, label, high, low, list)
+    let high = wide(HIGHS[i]);
+    let low = wide(LOWS[i]);
+    let label = wide(LABELS[i]);
+    let list = wide(LISTS[i]);
+    field_line(out, at, word, label as u64, high, low, list)
 }
 
 pub(crate) fn first(shape: usize) -> usize
     requires { ⌜ shape < 258 ⌝ }
     ensures { λ n. ⌜ n ≡ getD shapeFirsts shape 0 ⌝ }
 {
-    FIRSTS[shape] as usize
+    wide(FIRSTS[shape]) as usize
 }
 
 pub(crate) fn count(shape: usize) -> usize
     requires { ⌜ shape < 258 ⌝ }
     ensures { λ n. ⌜ n ≡ getD shapeCounts shape 0 ⌝ }
 {
-    COUNTS[shape] as usize
+    wide(COUNTS[shape]) as usize
 }
