@@ -26,5 +26,5 @@ refusalText short UnknownClass = ascii "refused 3: EC 31:26 is no class of the b
 refusalText short ShortInstruction = ascii "refused 4: IL 25 is 0 where it must be 1\n"
 refusalText short NoEdition = ascii "refused 5: no edition has it\n"
 refusalText short (OtherEditions mask count) =
-    ascii "refused 6: this edition doesn't have it, others do\n" ++ askedLines (askedBy short mask)
-    ++ editionsText (editionsOf short) mask
+    ascii "refused 6: this edition doesn't have it, others do\n"
+    ++ (askedLines (askedBy short mask) ++ editionsText (editionsOf short) mask)
