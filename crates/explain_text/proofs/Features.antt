@@ -44,13 +44,13 @@ allBelow (suc n) test = test n && allBelow n test
 
 below : (n : ℕ) (test : ℕ → Bool) → T (allBelow n test) → (k : ℕ) → k < n → T (test k)
 below zero test t k h = absurd (omega arith)
-below (suc n) test t k h = go (decLe n k)
+below (suc n) test t k h = go (decLe n k) (below n test (both-right (test n) (allBelow n test) t) k)
   where
-    go : Dec (n ≤ k) → T (test k)
-    go (yes last) =
+    go : Dec (n ≤ k) → (k < n → T (test k)) → T (test k)
+    go (yes last) less =
         let same : k ≡ n = omega arith in
         rw same (both-left (test n) (allBelow n test) t)
-    go (no less) = below n test (both-right (test n) (allBelow n test) t) k (omega arith)
+    go (no before) less = less (omega arith)
 
 abbrev ever : (Bool → Bool) → Bool
 ever test = test true && test false

@@ -1,6 +1,7 @@
 -- WHAT IS SAID OF A SYNDROME WORD in an edition, of a trap from AArch32: that it is taken, and the lines of its record; or the refusal in
 -- words, and with 6 the lines of the record that other editions have.
 use Prim.Native.Nat.{ℕ}
+use mathlib.Core.Bool.{false}
 use mathlib.Core.List.{List, [], _++_}
 use Rattle.edition.specs.declared.Refusal.{Refusal}
 use Rattle.edition.specs.declared.Refusal.the-variants.{UnknownEdition, UpperHalf, UnknownClass, ShortInstruction, NoEdition}

@@ -41,7 +41,7 @@ fn hex_word(digits: &[u8]) -> Word
 }
 
 // The word of at most 16 hexadecimal digits. More are none.
-pub fn word(digits: &[u8]) -> Word
+pub fn number(digits: &[u8]) -> Word
     ensures { λ w. ⌜ w ≡ wordIn (now (digits .entry)) ⌝ }
 {
     if digits.len() <= 16 {

@@ -49,10 +49,10 @@ fn trap(line: &[u8]) -> Question
     let Line::Question { edition, word } = line::parse(&line[..18]) else {
         return Question::None;
     };
-    let Word::Value(far) = line::word(&line[19..35]) else {
+    let Word::Value(far) = line::number(&line[19..35]) else {
         return Question::None;
     };
-    let Word::Value(hpfar) = line::word(&line[36..52]) else {
+    let Word::Value(hpfar) = line::number(&line[36..52]) else {
         return Question::None;
     };
     Question::Trap {
@@ -87,7 +87,7 @@ fn short(line: &[u8]) -> Question
     let Digit::Value(edition) = text::hex_digit(line[6]) else {
         return Question::None;
     };
-    let Word::Value(hsr) = line::word(&line[8..]) else {
+    let Word::Value(hsr) = line::number(&line[8..]) else {
         return Question::None;
     };
     Question::Short {
