@@ -43,10 +43,13 @@ fn trap(line: &[u8]) -> Question
     requires { ⌜ length (now line) ≡ 52 ⌝ }
     ensures { λ q. ⌜ q ≡ trapOf (now (line .entry)) ⌝ }
 {
-    if !((line[18] == b' ') & (line[35] == b' ')) {
+    if line[18] != b' ' {
         return Question::None;
     }
-    let Line::Question { edition, word } = line::parse(&line[..18]) else {
+    if line[35] != b' ' {
+        return Question::None;
+    }
+    let Line::Question { edition, word } = line::parse(&line[0..18]) else {
         return Question::None;
     };
     let Word::Value(far) = line::number(&line[19..35]) else {

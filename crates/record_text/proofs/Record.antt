@@ -26,7 +26,7 @@ one-bit (suc zero) h = refl
 one-bit (suc (suc x)) h = absurd (omega arith)
 
 module _ (w : ℕ) where
-  own-bit : fieldOf w 24 24 ≡ digit (bitOf w 24)
+  pub own-bit : fieldOf w 24 24 ≡ digit (bitOf w 24)
   own-bit = one-bit (fieldOf w 24 24) (omega arith)
 
   -- bit 24 of a word that holds a record's fields

@@ -54,5 +54,42 @@ codeIn (Record.Smc r) code = code
 codeIn (Record.InstructionAbort r) code = code
 codeIn (Record.DataAbort r) code = r .code
 
-abort : (isv serror : Bool) (fs : List Field) → rowsOf (dataAbortNames true true) fs ≡ rowsOf (dataAbortNames true true) fs
-abort isv serror fs = refl
+pub rows-agree : (r : Record) → headOf r .own ≡ true → (b : Bool) (code : ℕ)
+    → At (headOf r .class) (bitIn r b) (codeIn r code) (namesOf r) (fieldsOf r)
+unfolding shapeRows rowAt rowLabels rowHighs rowLows rowLists shapeFirsts shapeCounts labelAt valuesAt labels sources
+rows-agree (Record.Plain r) own b code =
+    both (λ t. At (r .class) t code (namesOf (Record.Plain r)) (fieldsOf (Record.Plain r)))
+    (among-each plainClasses (λ c. At c true code (namesOf (Record.Plain r)) (fieldsOf (Record.Plain r))) (refl, (refl, (refl, tt)))
+    (r .class) own)
+    (among-each plainClasses (λ c. At c false code (namesOf (Record.Plain r)) (fieldsOf (Record.Plain r))) (refl, (refl, (refl, tt)))
+    (r .class) own)
+    b
+rows-agree (Record.Wfx r) own b code = both (λ t. At 0x01 t code (wfxNames t) (fieldsOf (Record.Wfx r))) refl refl (r .cv)
+rows-agree (Record.Mcr r) own b code =
+    both (λ t. At (r .class) t code (mcrNames t) (fieldsOf (Record.Mcr r)))
+    (among-each mcrClasses (λ c. At c true code (mcrNames true) (fieldsOf (Record.Mcr r))) (refl, (refl, (refl, tt))) (r .class) own)
+    (among-each mcrClasses (λ c. At c false code (mcrNames false) (fieldsOf (Record.Mcr r))) (refl, (refl, (refl, tt))) (r .class) own)
+    (r .cv)
+rows-agree (Record.Mcrr r) own b code =
+    both (λ t. At (r .class) t code (mcrrNames t) (fieldsOf (Record.Mcrr r)))
+    (among-each mcrrClasses (λ c. At c true code (mcrrNames true) (fieldsOf (Record.Mcrr r))) (refl, (refl, tt)) (r .class) own)
+    (among-each mcrrClasses (λ c. At c false code (mcrrNames false) (fieldsOf (Record.Mcrr r))) (refl, (refl, tt)) (r .class) own)
+    (r .cv)
+rows-agree (Record.Ldc r) own b code = both (λ t. At 0x06 t code (ldcNames t) (fieldsOf (Record.Ldc r))) refl refl (r .cv)
+rows-agree (Record.Simd r) own b code = both (λ t. At 0x07 t code (simdNames t) (fieldsOf (Record.Simd r))) refl refl (r .cv)
+rows-agree (Record.Call r) own b code =
+    both (λ t. At (r .class) t code (callNames (r .class)) (fieldsOf (Record.Call r)))
+    (among-each callClasses (λ c. At c true code (callNames c) (fieldsOf (Record.Call r))) (refl, (refl, tt)) (r .class) own)
+    (among-each callClasses (λ c. At c false code (callNames c) (fieldsOf (Record.Call r))) (refl, (refl, tt)) (r .class) own)
+    b
+rows-agree (Record.Smc r) own b code = both (λ t. At 0x13 t code (smcNames t) (fieldsOf (Record.Smc r))) refl refl (r .cv)
+rows-agree (Record.InstructionAbort r) own b code =
+    both (λ t. At 0x20 t code instructionAbortNames (fieldsOf (Record.InstructionAbort r))) refl refl b
+rows-agree (Record.DataAbort r) own b code =
+    both
+    (λ serror. shapeRows (cond serror 256 (128 + 0x24 * 2) + digit (r .isv))
+    ≡ rowsOf (dataAbortNames (r .isv) serror) (fieldsOf (Record.DataAbort r)))
+    (both (λ isv. shapeRows (256 + digit isv) ≡ rowsOf (dataAbortNames isv true) (fieldsOf (Record.DataAbort r))) refl refl (r .isv))
+    (both (λ isv. shapeRows (128 + 0x24 * 2 + digit isv) ≡ rowsOf (dataAbortNames isv false) (fieldsOf (Record.DataAbort r))) refl refl
+    (r .isv))
+    (eqb (r .code) 0x11)
