@@ -1,7 +1,7 @@
 use borrow.Author.Needs.{needs}
 use mathlib.Core.Path.{refl, sym, _∙_}
 use denote.Ref.{now}
-use Rattle.bits.proofs.Booleans.{not-true, not-false}
+use borrow.Author.Tests.{not-true, not-false}
 use Rattle.question.proofs.Steps.{no-short, short-asked, eight}
 use Rattle.question.proofs.short.Statement.{statement}
 use Rattle.question.proofs.short.Tie as tie
