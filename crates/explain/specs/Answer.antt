@@ -3,7 +3,7 @@ use Prim.Native.Nat.{ℕ}
 use mathlib.Core.List.{List}
 use Rattle.explain_text.specs.Word.{wordSaid}
 use Rattle.explain_text.specs.Trap.{trapSaid}
-use Rattle.explain_text.specs.Short.{shortSaid}
+use Rattle.short_text.specs.Said.{shortSaid}
 use Rattle.question.specs.declared.Question.{Question}
 use Rattle.text.specs.Ascii.{ascii}
 

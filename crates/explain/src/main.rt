@@ -1,13 +1,15 @@
-// Reads lines from standard input, each an edition and a syndrome word, and writes what reading the word in that edition answers, of a trap
-// from AArch32.
+// Says in words what an edition makes of a trap from AArch32. A question is a line: an edition and a syndrome word, as trapread has them; the
+// same with FAR and HPFAR behind it; or, after the word `short`, a short edition and a word of the short form. The program's arguments are
+// one line, and without any it reads lines from standard input.
 //
-// Input and lines may have any length: a chunk of the input is held at a time, and of a line what `line` keeps of it. The answers to a
+// Input and lines may have any length: a chunk of the input is held at a time, and of a line what `question` keeps of it. The answers to a
 // chunk are written before the next one is read.
 ghost use mathlib.Core.Path.{_≡_};
 ghost use Prim.Native.Nat.{_≤_, _*_};
 ghost use lib.ListN.{length, take};
 ghost use Rattle.io.specs.Counts.{Counts};
 ghost use Rattle.text.specs.Append.{Appends};
+ghost use Rattle.question.specs.Question.{questionOf};
 ghost use Rattle.explain.specs.Answer.{answerText};
 ghost use Rattle.explain.specs.Lines.{lineAfter, answersIn, lastText, Answered};
 use address::Far;
@@ -31,7 +33,7 @@ fn answer(out: &mut [u8], at: usize, question: Question) -> usize
             far,
             hpfar,
         } => explain_text::trap_said(out, at, edition, Esr(esr), Far(far), Hpfar(hpfar)),
-        Question::Short { edition, hsr } => explain_text::short_said(out, at, edition, Hsr(hsr)),
+        Question::Short { edition, hsr } => short_text::said(out, at, edition, Hsr(hsr)),
         Question::None => text::append(out, at, b"no line\n"),
     }
 }
@@ -104,6 +106,15 @@ fn last(out: &mut [u8], line: State) -> usize
     answer(out, 0, question::finish(line))
 }
 
+// Puts the answer to a whole line into a buffer that has room for any answer.
+fn answer_line(out: &mut [u8], line: &[u8]) -> usize
+    requires { ⌜ 4096 ≤ length (now out) ⌝ }
+    ensures { λ end. ⌜ take end (now (out .exit)) ≡ answerText (questionOf (now (line .entry))) ⌝ }
+    ensures { λ end. ⌜ Counts end (now (out .exit)) ⌝ }
+{
+    answer(out, 0, question::parse(line))
+}
+
 // Writes the text at the start of a buffer. No contract can say what was written.
 fn write(out: &mut [u8], end: usize) -> bool
     requires { ⌜ Counts end (now out) ⌝ }
@@ -111,8 +122,9 @@ fn write(out: &mut [u8], end: usize) -> bool
     io::write_all(STDOUT_FILENO, &out[..end])
 }
 
-// A proved loop has to end, and nothing says that the input does: it counts down from a number that no run uses up.
-fn main() {
+// Answers the lines of standard input. A proved loop has to end, and nothing says that the input does: it counts down from a number that no
+// run uses up.
+fn answer_input() {
     let mut space = io::large_buffer();
     let out: &mut [u8] = &mut space;
     let mut line = question::start();
@@ -127,4 +139,71 @@ fn main() {
     }
     let end = last(out, line);
     write(out, end);
+}
+
+// Appends an argument to a line, after a space where it isn't the first.
+fn add_argument(line: &mut [u8], at: usize, i: usize) -> usize
+    requires { ⌜ at ≤ length (now line) ⌝ }
+    ensures { λ end. ⌜ end ≤ length (now (line .exit)) ⌝ }
+{
+    let mut one = io::buffer();
+    let n = os::arg(i, &mut one);
+    if i == 1 {
+        return text::append(line, at, &one[..n]);
+    }
+    let space = text::append(line, at, b" ");
+    text::append(line, space, &one[..n])
+}
+
+// The arguments as one line. What has no room is left out, and what is left is no line.
+fn arguments(line: &mut [u8], count: usize) -> usize
+    ensures { λ end. ⌜ Counts end (now (line .exit)) ⌝ }
+{
+    let mut end = 0;
+    let mut i = 1;
+    while i < count {
+        end = add_argument(line, end, i);
+        i += 1;
+    }
+    end
+}
+
+const HELP: [u8; 562] = *b"\
+    Says in words what an edition makes of a trap from AArch32.\n\
+    \n\
+    explain E ESR            an edition and a syndrome word\n\
+    explain E ESR FAR HPFAR  an edition and the three registers of a trap\n\
+    explain short E HSR      a short edition, 0 or 1, and a word of the short form\n\
+    explain                  lines of standard input, each as the arguments above\n\
+    \n\
+    E is one hex digit: RAS counts 1, LPA2 counts 2, HAFDBS counts 4, LPA counts 8. ESR, FAR\n\
+    and HPFAR have 16 hex digits each and HSR has 8, none with 0x. Words are separated by one\n\
+    space. Every other line is `no line`.\n\
+    ";
+
+fn help() {
+    let text = HELP;
+    io::write_all(STDOUT_FILENO, &text);
+}
+
+// Answers the question that the arguments are.
+fn answer_arguments(count: usize) {
+    let mut line = io::buffer();
+    let end = arguments(&mut line, count);
+    if check::same(&line[..end], b"--help") {
+        help();
+        return;
+    }
+    let mut out = io::buffer();
+    let told = answer_line(&mut out, &line[..end]);
+    write(&mut out, told);
+}
+
+fn main() {
+    let count = os::arg_count();
+    if count < 2 {
+        answer_input();
+    } else {
+        answer_arguments(count);
+    }
 }
