@@ -172,7 +172,11 @@ fn fields(form: &Form, record: &Record) -> String {
     let class = format!("EC 31:26 = {:#x}{}\n", record.class, said(class_name(record.class)));
     let own = record.kind.fields.iter().zip(&record.values).map(|(field, &value)| {
         let name = field_name(form, record, field.name);
-        format!("{name} {} = {value:#x}{}\n", field.bits(), said(meaning(form, record, name, value)))
+        format!(
+            "{name} {} = {value:#x}{}\n",
+            field.bits(),
+            said(meaning(form, record, name, value))
+        )
     });
     let fixed = match record.kind.fixed {
         0 => String::new(),
@@ -252,9 +256,7 @@ fn fault(code: u32) -> Option<String> {
         0x13 => format!("Synchronous External abort on {UPDATE}, level -1"),
         0x14..=0x17 => format!("Synchronous External abort on {UPDATE}, level {level}"),
         0x18 => format!("{ECC}, not on translation table walk"),
-        0x19 => {
-            "Asynchronous SError interrupt, from a parity or ECC error on memory access".into()
-        }
+        0x19 => "Asynchronous SError interrupt, from a parity or ECC error on memory access".into(),
         0x1b => format!("{ECC} on {UPDATE}, level -1"),
         0x1c..=0x1f => format!("{ECC} on {UPDATE}, level {level}"),
         0x21 => "Alignment fault".into(),
@@ -315,9 +317,7 @@ fn meaning(form: &Form, record: &Record, name: &str, value: u32) -> Option<Strin
         "DFSC" if record.class == 0x2f && value == 0 => &["Uncategorized error"],
         "IFSC" | "DFSC" => return fault(value),
         "ISV" if is_step => &["EX bit is RES0", "EX bit is valid"],
-        "ISV" => {
-            &["No valid instruction syndrome", "ISS[23:14] hold a valid instruction syndrome"]
-        }
+        "ISV" => &["No valid instruction syndrome", "ISS[23:14] hold a valid instruction syndrome"],
         "CM" => &[
             "Not from a cache maintenance or address translation instruction",
             "From a cache maintenance or address translation instruction",
