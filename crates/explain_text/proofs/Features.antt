@@ -38,11 +38,11 @@ exactly mask = eqb (maskBelow 16 (fits (askedBy false mask))) mask
 abbrev told : ℕ → Bool
 told mask = eqb mask 0 || exactly mask
 
-abbrev allBelow : ℕ → (ℕ → Bool) → Bool
+abbrev pub allBelow : ℕ → (ℕ → Bool) → Bool
 allBelow zero test = true
 allBelow (suc n) test = test n && allBelow n test
 
-below : (n : ℕ) (test : ℕ → Bool) → T (allBelow n test) → (k : ℕ) → k < n → T (test k)
+pub below : (n : ℕ) (test : ℕ → Bool) → T (allBelow n test) → (k : ℕ) → k < n → T (test k)
 below zero test t k h = absurd (omega arith)
 below (suc n) test t k h = go (decLe n k) (below n test (both-right (test n) (allBelow n test) t) k)
   where
