@@ -29,6 +29,14 @@ impl Field {
         self.high - self.low + 1
     }
 
+    /// The bits as the manual writes them.
+    pub fn bits(&self) -> String {
+        match self.width() {
+            1 => self.high.to_string(),
+            _ => format!("{}:{}", self.high, self.low),
+        }
+    }
+
     /// How many values fit.
     pub fn values(&self) -> u32 {
         1 << self.width()

@@ -12,6 +12,7 @@ mod compare;
 mod compare_a32;
 mod device;
 mod edition;
+mod explain;
 mod form;
 mod guest;
 mod log;

@@ -4,6 +4,7 @@
 
 use crate::call::{self, A32, ONWARD, RUNS, STATES, WORDS};
 use crate::catalogue::Catalogue;
+use crate::explain;
 use crate::log;
 use crate::log_runs;
 use crate::long::LONG;
@@ -26,6 +27,7 @@ struct Program {
 
 const PROGRAMS: [Program; 7] = [
     Program { name: "trapread", answers: trapread, inputs: trapread_inputs },
+    Program { name: "explain", answers: explain::explain, inputs: explain_inputs },
     Program { name: "logread", answers: logread, inputs: log_runs::inputs },
     Program { name: WORDS.name, answers: |input| WORDS.answers(input), inputs: words_inputs },
     Program { name: STATES.name, answers: |input| STATES.answers(input), inputs: states_inputs },
@@ -253,6 +255,14 @@ fn trapread_inputs() -> Vec<(String, Vec<u8>)> {
     ));
     inputs.push(("a line of some MiB".into(), "0".repeat(3 << 20).into_bytes()));
     inputs.push(("some million newlines".into(), "\n".repeat(2 << 20).into_bytes()));
+    inputs
+}
+
+/// Stored questions and those of the trap reader, which ends of an input are tried on.
+fn explain_inputs() -> Vec<(String, Vec<u8>)> {
+    let mut inputs = vec![("the questions".into(), explain::questions().into_bytes())];
+    let small = trapread_inputs().into_iter().filter(|(_, input)| input.len() < 1 << 16);
+    inputs.extend(small);
     inputs
 }
 

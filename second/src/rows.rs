@@ -17,6 +17,7 @@ mod write;
 
 use crate::call::{Call, Checker, CHECKERS};
 use crate::cases;
+use crate::explain;
 use crate::log;
 use crate::long::Origin;
 use std::fs;
@@ -133,7 +134,11 @@ fn files() -> Result<Vec<File>, Vec<String>> {
         [("stdin", stdin), ("stdout", stdout)]
             .map(|(file, bytes)| File { name: format!("{}/{file}", checker.name), bytes })
     });
-    Ok(files.collect())
+    let asked = explain::questions().into_bytes();
+    let told = explain::explain(&asked);
+    let explained = [("explain/stdin", asked), ("explain/stdout", told)]
+        .map(|(name, bytes)| File { name: name.into(), bytes });
+    Ok(files.chain(explained).collect())
 }
 
 /// Numbers below a bound by turns.

@@ -4,7 +4,7 @@ use Prim.Native.Nat.{ℕ, _+_, _*_}
 use Prim.Native.Char.{code}
 use mathlib.Core.Bool.{cond, _&&_}
 use mathlib.Core.List.{List, [], _∷_}
-use lib.Dec.{eqb}
+use lib.Dec.{leb, eqb}
 use lib.ListN.{length, getD, drop}
 use Rattle.text.specs.Digit.{hexDigit}
 use Rattle.text.specs.declared.Digit.{Digit}
@@ -22,6 +22,10 @@ wordFrom value (byte ∷ rest) = onDigit (hexDigit byte) (λ digit. wordFrom (va
 
 unfoldable pub wordOf : List ℕ → Word
 wordOf digits = wordFrom 0 digits
+
+-- a word has at most 16 digits
+abbrev pub wordIn : List ℕ → Word
+wordIn digits = cond (leb (length digits) 16) (wordOf digits) Word.None
 
 abbrev pub questionOf : Digit → Word → Line
 questionOf (Digit.Value edition) (Word.Value word) = Line.Question edition word

@@ -4,7 +4,7 @@
 ghost use mathlib.Core.Path.{_≡_};
 ghost use Prim.Native.Nat.{_≤_};
 ghost use lib.ListN.{length};
-ghost use Rattle.line.specs.Line.{wordOf, lineOf};
+ghost use Rattle.line.specs.Line.{wordOf, wordIn, lineOf};
 ghost use Rattle.line.specs.Feed.{started, fed, finished};
 use text::Digit;
 
@@ -14,8 +14,8 @@ pub enum Line {
     NoLine,
 }
 
-// A word, or that some byte is no digit.
-enum Word {
+// A word, or that there is none.
+pub enum Word {
     Value(u64),
     None,
 }
@@ -38,6 +38,17 @@ fn hex_word(digits: &[u8]) -> Word
         i += 1;
     }
     Word::Value(value)
+}
+
+// The word of at most 16 hexadecimal digits. More are none.
+pub fn number(digits: &[u8]) -> Word
+    ensures { λ w. ⌜ w ≡ wordIn (now (digits .entry)) ⌝ }
+{
+    if digits.len() <= 16 {
+        hex_word(digits)
+    } else {
+        Word::None
+    }
 }
 
 // Reads a line, without its newline.

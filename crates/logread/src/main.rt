@@ -1,4 +1,4 @@
-// Reads a trap log from standard input and writes it as lines of text, piece by piece.
+// Reads a trap log from the file that its argument names, or from standard input, and writes it as lines of text, piece by piece.
 ghost use Prim.Native.Nat.{_≤_, _<_};
 ghost use mathlib.Core.Path.{_≡_};
 ghost use mathlib.Core.List.{[]};
@@ -8,13 +8,13 @@ ghost use Rattle.log_pieces.specs.Text.{shown, seenMask, piecesOf};
 use libc::STDIN_FILENO;
 use libc::STDOUT_FILENO;
 
-// Reads the input into a buffer. One byte more than a log may have is enough to refuse an input of any length, and no more is read. No
+// Reads a file into a buffer. One byte more than a log may have is enough to refuse an input of any length, and no more is read. No
 // contract can say which bytes were read.
-fn read_log(space: &mut [u8]) -> usize
+fn read_log(file: i32, space: &mut [u8]) -> usize
     requires { ⌜ 65536 < length (now space) ⌝ }
     ensures { λ n. ⌜ Counts n (now (space .exit)) ⌝ }
 {
-    io::read_full(STDIN_FILENO, space)
+    io::read_full(file, space)
 }
 
 // Puts piece i of a log's text into a buffer that has room for any piece.
@@ -51,9 +51,48 @@ fn write_text(out: &mut [u8], log: &[u8])
     }
 }
 
-fn main() {
+// Shows the log in a file that is open for reading.
+fn show(file: i32) {
     let mut space = [0u8; 65537];
-    let n = read_log(&mut space);
+    let n = read_log(file, &mut space);
     let mut out = io::buffer();
     write_text(&mut out, &space[..n]);
+}
+
+const HELP: [u8; 238] = *b"\
+    Shows a trap log: how it was read, the editions seen, each trap with its registers and what\n\
+    each known edition among those seen makes of it, and the injections.\n\
+    \n\
+    logread FILE    the log in a file\n\
+    logread         the log on standard input\n\
+    ";
+
+fn help() {
+    let text = HELP;
+    io::write_all(STDOUT_FILENO, &text);
+}
+
+// Shows the log in the file that the first argument names, or says why it can't be opened.
+fn show_named(name: &[u8]) {
+    if check::same(name, b"--help") {
+        help();
+        return;
+    }
+    let file = os::open_read(name);
+    if file < 0 {
+        os::fail(name);
+        return;
+    }
+    show(file);
+    libc::close(file);
+}
+
+fn main() {
+    if os::arg_count() < 2 {
+        show(STDIN_FILENO);
+    } else {
+        let mut name = io::buffer();
+        let n = os::arg(1, &mut name);
+        show_named(&name[..n]);
+    }
 }

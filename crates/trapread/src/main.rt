@@ -129,8 +129,9 @@ fn write(out: &mut [u8], end: usize) -> bool
     io::write_all(STDOUT_FILENO, &out[..end])
 }
 
-// A proved loop has to end, and nothing says that the input does: it counts down from a number that no run uses up.
-fn main() {
+// Answers the lines of standard input. A proved loop has to end, and nothing says that the input does: it counts down from a number that
+// no run uses up.
+fn answer_input() {
     let mut space = io::large_buffer();
     let out: &mut [u8] = &mut space;
     let mut line = line::start();
@@ -145,4 +146,34 @@ fn main() {
     }
     let end = last(out, line);
     write(out, end);
+}
+
+const HELP: [u8; 441] = *b"\
+    Reads lines from standard input, each an edition and a syndrome word of a trap from AArch32,\n\
+    and writes what reading the word in that edition answers: `taken`, or `refused` with the\n\
+    number, the mask of the editions that have the word and how many they are. `explain` says it\n\
+    in words.\n\
+    \n\
+    The edition is one hex digit: RAS counts 1, LPA2 counts 2, HAFDBS counts 4, LPA counts 8. A\n\
+    space and 16 hex digits follow. Every other line is `no line`.\n\
+    ";
+
+fn help() {
+    let text = HELP;
+    io::write_all(STDOUT_FILENO, &text);
+}
+
+// Whether the first argument asks for help. The program takes no other.
+fn asks_help() -> bool {
+    let mut word = io::buffer();
+    let n = os::arg(1, &mut word);
+    check::same(&word[..n], b"--help")
+}
+
+fn main() {
+    if asks_help() {
+        help();
+    } else {
+        answer_input();
+    }
 }

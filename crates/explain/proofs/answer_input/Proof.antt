@@ -1,10 +1,10 @@
--- `trapread::main` is safe and ends. The measure is the number of turns that are left, and the buffer keeps its length.
+-- `explain::answer_input` is safe and ends. The measure is the number of turns that are left, and the buffer keeps its length.
 -- Assumes nothing.
 use borrow.Author.Needs.{needs}
 use mathlib.Core.Path.{_≡_}
 use lib.ListN.{length}
-use Rattle.trapread.proofs.main.Statement.{statement}
-use Rattle.trapread.proofs.main.Tie as tie
+use Rattle.explain.proofs.answer_input.Statement.{statement}
+use Rattle.explain.proofs.answer_input.Tie as tie
 
 abbrev Inv-loop : tie.InvT-loop
 Inv-loop out₀ line₀ turns₀ out line turns = length out ≡ 65536
@@ -48,8 +48,8 @@ write-requires-2 c κs = search needs
 returns : tie.Need-returns Inv-loop μ-loop
 returns c = search needs
 
-pub main-spec : {M : Type 1} → statement M
-main-spec =
+pub answer-input-spec : {M : Type 1} → statement M
+answer-input-spec =
     tie.close
     (tie.spec
     Inv-loop

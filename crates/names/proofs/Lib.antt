@@ -1,0 +1,4 @@
+pub mod Cut
+pub mod Dense
+pub mod Tables
+pub mod Room

@@ -1,0 +1,270 @@
+-- What the values of the other fields mean (source 001; TA and the short form's AET by source 004; COND by the manual's table of condition
+-- codes). A value that is missing has no meaning in the build.
+use mathlib.Core.List.{List, [], _∷_}
+use Rattle.names.specs.Name.{Entry, means}
+
+-- IL
+abbrev pub lengths : List Entry
+lengths =
+    means 0 "16-bit instruction trapped"
+    ∷ means 1 "32-bit instruction trapped, or an exception that has this value"
+    ∷ []
+
+-- CV
+abbrev pub validity : List Entry
+validity =
+    means 0 "The COND field is not valid"
+    ∷ means 1 "The COND field is valid"
+    ∷ []
+
+-- COND, where CV is 1
+abbrev pub conditions : List Entry
+conditions =
+    means 0 "EQ"
+    ∷ means 1 "NE"
+    ∷ means 2 "CS"
+    ∷ means 3 "CC"
+    ∷ means 4 "MI"
+    ∷ means 5 "PL"
+    ∷ means 6 "VS"
+    ∷ means 7 "VC"
+    ∷ means 8 "HI"
+    ∷ means 9 "LS"
+    ∷ means 10 "GE"
+    ∷ means 11 "LT"
+    ∷ means 12 "GT"
+    ∷ means 13 "LE"
+    ∷ means 14 "AL"
+    ∷ []
+
+-- COND, where CV is 0
+abbrev pub noCondition : List Entry
+noCondition =
+    means 0 "UNKNOWN"
+    ∷ means 1 "UNKNOWN"
+    ∷ means 2 "UNKNOWN"
+    ∷ means 3 "UNKNOWN"
+    ∷ means 4 "UNKNOWN"
+    ∷ means 5 "UNKNOWN"
+    ∷ means 6 "UNKNOWN"
+    ∷ means 7 "UNKNOWN"
+    ∷ means 8 "UNKNOWN"
+    ∷ means 9 "UNKNOWN"
+    ∷ means 10 "UNKNOWN"
+    ∷ means 11 "UNKNOWN"
+    ∷ means 12 "UNKNOWN"
+    ∷ means 13 "UNKNOWN"
+    ∷ means 14 "UNKNOWN"
+    ∷ means 15 "UNKNOWN"
+    ∷ []
+
+-- TI
+abbrev pub waits : List Entry
+waits =
+    means 0 "WFI trapped"
+    ∷ means 1 "WFE trapped"
+    ∷ []
+
+-- Direction of an MCR or MRC
+abbrev pub mcrDirections : List Entry
+mcrDirections =
+    means 0 "Write to System register space, MCR instruction"
+    ∷ means 1 "Read from System register space, MRC or VMRS instruction"
+    ∷ []
+
+-- Direction of an MCRR or MRRC
+abbrev pub mcrrDirections : List Entry
+mcrrDirections =
+    means 0 "Write to System register space, MCRR instruction"
+    ∷ means 1 "Read from System register space, MRRC instruction"
+    ∷ []
+
+-- Offset
+abbrev pub offsets : List Entry
+offsets =
+    means 0 "Subtract offset"
+    ∷ means 1 "Add offset"
+    ∷ []
+
+-- AM
+abbrev pub addressingModes : List Entry
+addressingModes =
+    means 0 "Immediate unindexed"
+    ∷ means 1 "Immediate post-indexed"
+    ∷ means 2 "Immediate offset"
+    ∷ means 3 "Immediate pre-indexed"
+    ∷ means 4 "Literal unindexed, Rn is UNKNOWN"
+    ∷ means 6 "Literal offset, Rn is UNKNOWN"
+    ∷ []
+
+-- Direction of an LDC or STC
+abbrev pub ldcDirections : List Entry
+ldcDirections =
+    means 0 "Write to memory, STC instruction"
+    ∷ means 1 "Read from memory, LDC instruction"
+    ∷ []
+
+-- CCKNOWNPASS
+abbrev pub passes : List Entry
+passes =
+    means 0 "The instruction was unconditional, or passed its condition code check"
+    ∷ means 1 "The instruction was conditional, and might have failed its condition code check"
+    ∷ []
+
+-- SET
+abbrev pub errorTypes : List Entry
+errorTypes =
+    means 0 "Recoverable state (UER), where the code is 0x10 and the board has RAS"
+    ∷ means 2 "Uncontainable (UC)"
+    ∷ means 3 "Restartable state (UEO)"
+    ∷ []
+
+-- FnV
+abbrev pub farValidity : List Entry
+farValidity =
+    means 0 "FAR is valid"
+    ∷ means 1 "FAR is not valid, and holds an UNKNOWN value"
+    ∷ []
+
+-- S1PTW
+abbrev pub walks : List Entry
+walks =
+    means 0 "Fault not on a stage 2 translation for a stage 1 translation table walk"
+    ∷ means 1 "Fault on the stage 2 translation of an access for a stage 1 translation table walk"
+    ∷ []
+
+-- ISV of a Data Abort
+abbrev pub syndromeValidity : List Entry
+syndromeValidity =
+    means 0 "No valid instruction syndrome"
+    ∷ means 1 "ISS[23:14] hold a valid instruction syndrome"
+    ∷ []
+
+-- SAS, where ISV is 1
+abbrev pub sizes : List Entry
+sizes =
+    means 0 "Byte"
+    ∷ means 1 "Halfword"
+    ∷ means 2 "Word"
+    ∷ means 3 "Doubleword"
+    ∷ []
+
+-- SSE, where ISV is 1
+abbrev pub extensions : List Entry
+extensions =
+    means 0 "Sign-extension not required"
+    ∷ means 1 "Data item must be sign-extended"
+    ∷ []
+
+-- SF, where ISV is 1
+abbrev pub widths : List Entry
+widths =
+    means 0 "Instruction loads/stores a 32-bit wide register"
+    ∷ means 1 "Instruction loads/stores a 64-bit wide register"
+    ∷ []
+
+-- AR, where ISV is 1
+abbrev pub semantics : List Entry
+semantics =
+    means 0 "Instruction did not have acquire/release semantics"
+    ∷ means 1 "Instruction did have acquire/release semantics"
+    ∷ []
+
+-- CM
+abbrev pub maintenance : List Entry
+maintenance =
+    means 0 "Not from a cache maintenance or address translation instruction"
+    ∷ means 1 "From a cache maintenance or address translation instruction"
+    ∷ []
+
+-- WnR
+abbrev pub accesses : List Entry
+accesses =
+    means 0 "Read from a memory location"
+    ∷ means 1 "Write to a memory location"
+    ∷ []
+
+-- ISV of a Software Step
+abbrev pub stepValidity : List Entry
+stepValidity =
+    means 0 "EX bit is RES0"
+    ∷ means 1 "EX bit is valid"
+    ∷ []
+
+-- EX, where ISV is 1
+abbrev pub exclusives : List Entry
+exclusives =
+    means 0 "An instruction other than a Load-Exclusive instruction was stepped"
+    ∷ means 1 "A Load-Exclusive instruction was stepped"
+    ∷ []
+
+-- AET
+abbrev pub asynchronousTypes : List Entry
+asynchronousTypes =
+    means 0 "Uncontainable (UC), where DFSC is 0x11"
+    ∷ means 1 "Unrecoverable state (UEU)"
+    ∷ means 2 "Restartable state (UEO)"
+    ∷ means 3 "Recoverable state (UER)"
+    ∷ means 6 "Corrected (CE)"
+    ∷ []
+
+-- Direction of an MSR, MRS or System instruction
+abbrev pub systemDirections : List Entry
+systemDirections =
+    means 0 "Write access, including MSR instructions"
+    ∷ means 1 "Read access, including MRS instructions"
+    ∷ []
+
+-- TA
+abbrev pub simdUses : List Entry
+simdUses =
+    means 0 "Exception was not caused by trapped use of Advanced SIMD functionality"
+    ∷ means 1 "Exception was caused by trapped use of Advanced SIMD functionality"
+    ∷ []
+
+-- AET of the short form, with DFSC 0x11
+abbrev pub shortTypes : List Entry
+shortTypes =
+    means 0 "Uncontainable error (UC) or uncategorized"
+    ∷ means 1 "Unrecoverable error (UEU)"
+    ∷ means 2 "Restartable error (UEO) or Corrected error (CE)"
+    ∷ means 3 "Recoverable error (UER)"
+    ∷ []
+
+-- why no edition has a word, by the number of the reason (crate reason)
+abbrev pub reasons : List Entry
+reasons =
+    means 1 "a bit is set that belongs to no field of the class"
+    ∷ means 2 "CV 24 is 1 and COND 23:20 is 0b1111"
+    ∷ means 3 "Direction 0 is 0, and this class only reads"
+    ∷ means 4 "AM 3:1 is reserved, or is a literal form and Direction 0 is 0"
+    ∷ means 5 "IL 25 is 0 and the immediate 15:0 is above 255"
+    ∷ means 6 "CCKNOWNPASS 19 is 0, and CV 24 or COND 23:20 is not"
+    ∷ means 7 "FnV 10 is 1 and the fault code 5:0 is not 0x10"
+    ∷ means 8 "EA 9 is 1 and the fault code 5:0 is not among 0x10 to 0x1f"
+    ∷ means 9 "S1PTW 7 is 1 and the fault code 5:0 is no MMU fault"
+    ∷ means 10 "ISV 24 is 0 and bits 23:14 are not"
+    ∷ means 11 "ISV 24 is 1, and the access is none of an AArch32 guest: SF 15 is 1, SAS 23:22 is 3, or SRT names no register of its own"
+    ∷ means 12 "ISV 24 is 1, and CM 8 or S1PTW 7 is 1"
+    ∷ means 13 "SSE 21 is 1, and SAS 23:22 is above 1 or WnR 6 is 1"
+    ∷ means 14 "CM 8 is 1 and WnR 6 is 0"
+    ∷ means 15 "EX 6 is 1 and ISV 24 is 0"
+    ∷ means 16 "AET 12:10, EA 9 and DFSC 5:0 don't go together"
+    ∷ means 17 "no edition has the fault code 5:0"
+    ∷ means 18 "SET 12:11 is neither 0 nor, with the fault code 0x10, 2 or 3"
+    ∷ means 19 "ISV 24 is 1 and the fault code 5:0 doesn't go with it"
+    ∷ means 20 "the fault code 5:0 is not 0x22, a debug exception"
+    ∷ means 21 "TA 5 and coproc 3:0 don't go together"
+    ∷ means 22 "CM 8 is 1 in an SError interrupt"
+    ∷ means 23 "bits 11:10 and the fault code 5:0 don't go together"
+    ∷ []
+
+-- the injections of 01, in the order of its table
+abbrev pub injections : List Entry
+injections =
+    means 0 "Undefined Instruction, PC at the instruction"
+    ∷ means 1 "Undefined Instruction, PC after the instruction"
+    ∷ means 2 "Supervisor Call"
+    ∷ means 3 "Prefetch Abort"
+    ∷ means 4 "Data Abort"
+    ∷ []

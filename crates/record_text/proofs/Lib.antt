@@ -1,0 +1,3 @@
+pub mod Shapes
+pub mod Record
+pub mod Every

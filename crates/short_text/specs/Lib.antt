@@ -1,0 +1,4 @@
+pub mod Names
+pub mod Text
+pub mod Inner
+pub mod Said

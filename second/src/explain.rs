@@ -1,0 +1,529 @@
+//! What the program explain must write: a word's record, field by field, in
+//! the manual's words; or the refusal, and for 6 the features that set the
+//! editions apart, found by going through the editions.
+
+use crate::catalogue::Catalogue;
+use crate::edition::{Edition, EditionMask};
+use crate::form::{Form, Record};
+use crate::long::LONG;
+use crate::short::SHORT;
+use crate::syndrome::{read, word_to_look_up, Refusal};
+use crate::trap::{read_trap, Intermediate, Registers, Trap};
+
+/// What a line asks.
+#[derive(Clone, Copy, Debug)]
+enum Question {
+    Word { edition: u32, esr: u64 },
+    Trap { edition: u32, registers: Registers },
+    Short { edition: u32, hsr: u32 },
+}
+
+fn hexadecimal(text: &str, digits: usize) -> Option<u64> {
+    let are_digits = text.bytes().all(|byte| byte.is_ascii_hexdigit());
+    (text.len() == digits && are_digits).then(|| u64::from_str_radix(text, 16).ok())?
+}
+
+fn question(line: &[u8]) -> Option<Question> {
+    let line = std::str::from_utf8(line).ok()?;
+    let words: Vec<&str> = line.split(' ').collect();
+    let edition = |text| hexadecimal(text, 1).map(|edition| edition as u32);
+    match words[..] {
+        ["short", number, hsr] => {
+            Some(Question::Short { edition: edition(number)?, hsr: hexadecimal(hsr, 8)? as u32 })
+        }
+        [number, esr] => {
+            Some(Question::Word { edition: edition(number)?, esr: hexadecimal(esr, 16)? })
+        }
+        [number, esr, far, hpfar] => {
+            let (esr, far) = (hexadecimal(esr, 16)?, hexadecimal(far, 16)?);
+            let registers = Registers { esr, far, hpfar: hexadecimal(hpfar, 16)? };
+            Some(Question::Trap { edition: edition(number)?, registers })
+        }
+        _ => None,
+    }
+}
+
+/// What the program writes for an input.
+pub fn explain(input: &[u8]) -> Vec<u8> {
+    let questions: Vec<Option<Question>> = crate::call::lines(input).map(question).collect();
+    let long = questions.iter().flatten().filter_map(|asked| match *asked {
+        Question::Word { edition, esr } => word_to_look_up(&LONG, edition, esr).ok(),
+        Question::Trap { edition, registers } => {
+            word_to_look_up(&LONG, edition, registers.esr).ok()
+        }
+        Question::Short { .. } => None,
+    });
+    let long = Catalogue::of(&LONG, long.map(|(_, word)| word));
+    let short = questions.iter().flatten().filter_map(|asked| match *asked {
+        Question::Short { edition, hsr } => word_to_look_up(&SHORT, edition, hsr.into()).ok(),
+        _ => None,
+    });
+    let short = Catalogue::of(&SHORT, short.map(|(_, word)| word));
+    let answer = |asked: &Option<Question>| match *asked {
+        None => "no line\n".into(),
+        Some(Question::Word { edition, esr }) => word(&long, edition, esr),
+        Some(Question::Trap { edition, registers }) => trap(&long, edition, registers),
+        Some(Question::Short { edition, hsr }) => word(&short, edition, hsr.into()),
+    };
+    questions.iter().map(answer).collect::<String>().into_bytes()
+}
+
+fn word(catalogue: &Catalogue, edition: u32, word: u64) -> String {
+    match read(catalogue, edition, word) {
+        Ok(record) => format!("taken\n{}", fields(catalogue.form, &record)),
+        Err(refusal) => refused(catalogue, word, refusal),
+    }
+}
+
+fn trap(catalogue: &Catalogue, edition: u32, registers: Registers) -> String {
+    match read_trap(catalogue, edition, registers) {
+        Ok(trap) => {
+            format!("taken\n{}{}", fields(catalogue.form, &trap.record), addresses(&trap))
+        }
+        Err(Refusal { number: 7, .. }) => {
+            let top = if Edition(edition).lpa() { 43 } else { 39 };
+            format!("refused 7: a bit of HPFAR outside {top}:4 is set\n")
+        }
+        Err(Refusal { number: 8, .. }) => "refused 8: bits 63:32 of FAR are not zero\n".into(),
+        Err(refusal) => refused(catalogue, registers.esr, refusal),
+    }
+}
+
+fn addresses(trap: &Trap) -> String {
+    let is_abort = matches!(trap.record.class, 0x20 | 0x24);
+    let virtual_line = match trap.virtual_address {
+        Some(address) => format!("virtual address {address:#x}: FAR\n"),
+        None if is_abort => {
+            "virtual address not known: FnV is 1, and FAR holds an UNKNOWN value\n".into()
+        }
+        None => return "no address: this class has none\n".into(),
+    };
+    let intermediate = match trap.intermediate {
+        Intermediate::Page(page) => {
+            format!("address {page:#x}: the page in HPFAR alone, since S1PTW is 1")
+        }
+        Intermediate::Byte(byte) => format!("address {byte:#x}: the page in HPFAR with FAR 11:0"),
+        Intermediate::None if is_abort => {
+            "address not known: this code, with this S1PTW, leaves HPFAR UNKNOWN".into()
+        }
+        Intermediate::None => {
+            return format!("{virtual_line}no intermediate address: this class has none\n")
+        }
+    };
+    format!("{virtual_line}intermediate {intermediate}\n")
+}
+
+fn refused(catalogue: &Catalogue, word: u64, refusal: Refusal) -> String {
+    let form = catalogue.form;
+    match refusal.number {
+        1 => format!("refused 1: the edition is above {}\n", form.editions - 1),
+        2 => "refused 2: bits 63:32 are not zero\n".into(),
+        3 => "refused 3: EC 31:26 is no class of the build\n".into(),
+        4 => "refused 4: IL 25 is 0 where it must be 1\n".into(),
+        5 => "refused 5: no edition has it\n".into(),
+        _ => {
+            let entry = catalogue.find(word as u32).expect("what other editions have");
+            format!(
+                "refused 6: this edition doesn't have it, others do\n{}editions{}\n{}",
+                features(form, refusal.editions),
+                editions(form, refusal.editions),
+                fields(form, &entry.record)
+            )
+        }
+    }
+}
+
+fn editions(form: &Form, mask: EditionMask) -> String {
+    let of_mask = form.every_edition().filter(|&edition| mask.contains(edition));
+    of_mask.map(|edition| format!(" {:x}", edition.0)).collect()
+}
+
+/// A feature's name, and whether an edition has it.
+type Feature = (&'static str, fn(Edition) -> bool);
+
+/// The features that all editions of the mask have, and those that none has,
+/// where the editions that fit them are the mask's and no others.
+fn features(form: &Form, mask: EditionMask) -> String {
+    let all: [Feature; 4] = [
+        ("LPA2", Edition::lpa2),
+        ("HAFDBS", Edition::hafdbs),
+        ("LPA", Edition::lpa),
+        ("RAS", Edition::ras),
+    ];
+    let inside = || form.every_edition().filter(|&edition| mask.contains(edition));
+    // A feature that no edition of the form has sets none of them apart.
+    let known = |has: fn(Edition) -> bool| form.every_edition().any(has);
+    let needed: Vec<Feature> = all.into_iter().filter(|&(_, has)| inside().all(has)).collect();
+    let barred: Vec<Feature> =
+        all.into_iter().filter(|&(_, has)| known(has) && !inside().any(has)).collect();
+    let fits = |edition: Edition| {
+        needed.iter().all(|(_, has)| has(edition)) && !barred.iter().any(|(_, has)| has(edition))
+    };
+    for edition in form.every_edition() {
+        assert_eq!(fits(edition), mask.contains(edition), "the features of a mask");
+    }
+    let needed = needed.iter().map(|(name, _)| format!("needs {name}\n"));
+    let barred = barred.iter().map(|(name, _)| format!("not with {name}\n"));
+    needed.chain(barred).collect()
+}
+
+/// The lines of a record: its class, its fields, and what the layout fixes.
+fn fields(form: &Form, record: &Record) -> String {
+    let class = format!("EC 31:26 = {:#x}{}\n", record.class, said(class_name(record.class)));
+    let own = record.kind.fields.iter().zip(&record.values).map(|(field, &value)| {
+        let name = field_name(form, record, field.name);
+        format!(
+            "{name} {} = {value:#x}{}\n",
+            field.bits(),
+            said(meaning(form, record, name, value))
+        )
+    });
+    let fixed = match record.kind.fixed {
+        0 => String::new(),
+        code => {
+            let name = if record.class == 0x34 { "DFSC" } else { "IFSC" };
+            format!("{name} 5:0 = {code:#x}{}\n", said(fault(code)))
+        }
+    };
+    class + &own.collect::<String>() + &fixed
+}
+
+fn said(meaning: Option<String>) -> String {
+    meaning.map_or(String::new(), |text| format!(": {text}"))
+}
+
+/// The manual's name of a field.
+fn field_name(form: &Form, record: &Record, name: &'static str) -> &'static str {
+    let is_short = form.editions == 2;
+    match (name, record.class) {
+        ("code", 0x20) => "IFSC",
+        ("code", _) => "DFSC",
+        ("imm16", 0x38) => "Comment",
+        ("AET", _) if is_short && record.get("code") != Some(0x11) => "FnV",
+        _ => name,
+    }
+}
+
+fn class_name(class: u32) -> Option<String> {
+    let name = match class {
+        0x00 => "Unknown reason",
+        0x01 => "Trapped WFI or WFE instruction execution",
+        0x03 => "Trapped MCR or MRC access with coproc 0b1111",
+        0x04 => "Trapped MCRR or MRRC access with coproc 0b1111",
+        0x05 => "Trapped MCR or MRC access with coproc 0b1110",
+        0x06 => "Trapped LDC or STC access",
+        0x07 => "Trapped access to Advanced SIMD or floating-point functionality",
+        0x08 => "Trapped VMRS access, from ID group trap",
+        0x0c => "Trapped MRRC access with coproc 0b1110",
+        0x0e => "Illegal Execution state",
+        0x11..=0x13 => return Some(call(class - 0x11, "AArch32")),
+        0x15..=0x17 => return Some(call(class - 0x15, "AArch64")),
+        0x18 => "Trapped MSR, MRS or System instruction execution in AArch64 state",
+        0x20 => "Instruction Abort from a lower Exception level",
+        0x22 => "PC alignment fault exception",
+        0x24 => "Data Abort from a lower Exception level",
+        0x2f => "SError interrupt",
+        0x30 => "Breakpoint exception from a lower Exception level",
+        0x32 => "Software Step exception from a lower Exception level",
+        0x34 => "Watchpoint exception from a lower Exception level",
+        0x38 => "BKPT instruction execution in AArch32 state",
+        0x3a => "Vector Catch exception from AArch32 state",
+        _ => return None,
+    };
+    Some(name.into())
+}
+
+fn call(number: u32, state: &str) -> String {
+    let name = ["SVC", "HVC", "SMC"][number as usize];
+    format!("{name} instruction execution in {state} state")
+}
+
+/// A fault status code: what failed, and at which level.
+fn fault(code: u32) -> Option<String> {
+    const UPDATE: &str = "translation table walk or hardware update of translation table";
+    const ECC: &str = "Synchronous parity or ECC error on memory access";
+    let level = code % 4;
+    let text = match code {
+        0x00 => {
+            "Address size fault, level 0 of translation or translation table base register".into()
+        }
+        0x01..=0x03 => format!("Address size fault, level {level}"),
+        0x04..=0x07 => format!("Translation fault, level {level}"),
+        0x08..=0x0b => format!("Access flag fault, level {level}"),
+        0x0c..=0x0f => format!("Permission fault, level {level}"),
+        0x10 => format!("Synchronous External abort, not on {UPDATE}"),
+        0x11 => "Asynchronous SError interrupt".into(),
+        0x13 => format!("Synchronous External abort on {UPDATE}, level -1"),
+        0x14..=0x17 => format!("Synchronous External abort on {UPDATE}, level {level}"),
+        0x18 => format!("{ECC}, not on translation table walk"),
+        0x19 => "Asynchronous SError interrupt, from a parity or ECC error on memory access".into(),
+        0x1b => format!("{ECC} on {UPDATE}, level -1"),
+        0x1c..=0x1f => format!("{ECC} on {UPDATE}, level {level}"),
+        0x21 => "Alignment fault".into(),
+        0x22 => "Debug exception".into(),
+        0x29 => "Address size fault, level -1".into(),
+        0x2b => "Translation fault, level -1".into(),
+        0x30 => "TLB conflict abort".into(),
+        0x31 => "Unsupported atomic hardware update fault".into(),
+        0x34 => "IMPLEMENTATION DEFINED fault (Lockdown)".into(),
+        0x35 => "IMPLEMENTATION DEFINED fault (Unsupported Exclusive or Atomic access)".into(),
+        _ => return None,
+    };
+    Some(text)
+}
+
+const CONDITIONS: [&str; 15] =
+    ["EQ", "NE", "CS", "CC", "MI", "PL", "VS", "VC", "HI", "LS", "GE", "LT", "GT", "LE", "AL"];
+
+/// What a value means, by the name of its field.
+fn meaning(form: &Form, record: &Record, name: &str, value: u32) -> Option<String> {
+    let is_step = record.class == 0x32;
+    let has_syndrome = record.is_set("ISV");
+    let texts: &[&str] = match name {
+        "IL" => &[
+            "16-bit instruction trapped",
+            "32-bit instruction trapped, or an exception that has this value",
+        ],
+        "CV" => &["The COND field is not valid", "The COND field is valid"],
+        "COND" if !record.is_set("CV") => return Some("UNKNOWN".into()),
+        "COND" => &CONDITIONS,
+        "TI" => &["WFI trapped", "WFE trapped"],
+        "Direction" => return Some(direction(record.class, value)),
+        "Offset" => &["Subtract offset", "Add offset"],
+        "AM" => &[
+            "Immediate unindexed",
+            "Immediate post-indexed",
+            "Immediate offset",
+            "Immediate pre-indexed",
+            "Literal unindexed, Rn is UNKNOWN",
+            "",
+            "Literal offset, Rn is UNKNOWN",
+        ],
+        "CCKNOWNPASS" => &[
+            "The instruction was unconditional, or passed its condition code check",
+            "The instruction was conditional, and might have failed its condition code check",
+        ],
+        "SET" => &[
+            "Recoverable state (UER), where the code is 0x10 and the board has RAS",
+            "",
+            "Uncontainable (UC)",
+            "Restartable state (UEO)",
+        ],
+        "FnV" => &["FAR is valid", "FAR is not valid, and holds an UNKNOWN value"],
+        "S1PTW" => &[
+            "Fault not on a stage 2 translation for a stage 1 translation table walk",
+            "Fault on the stage 2 translation of an access for a stage 1 translation table walk",
+        ],
+        "DFSC" if record.class == 0x2f && value == 0 => &["Uncategorized error"],
+        "IFSC" | "DFSC" => return fault(value),
+        "ISV" if is_step => &["EX bit is RES0", "EX bit is valid"],
+        "ISV" => &["No valid instruction syndrome", "ISS[23:14] hold a valid instruction syndrome"],
+        "CM" => &[
+            "Not from a cache maintenance or address translation instruction",
+            "From a cache maintenance or address translation instruction",
+        ],
+        "WnR" => &["Read from a memory location", "Write to a memory location"],
+        "AET" if form.editions == 2 => &[
+            "Uncontainable error (UC) or uncategorized",
+            "Unrecoverable error (UEU)",
+            "Restartable error (UEO) or Corrected error (CE)",
+            "Recoverable error (UER)",
+        ],
+        "AET" => &[
+            "Uncontainable (UC), where DFSC is 0x11",
+            "Unrecoverable state (UEU)",
+            "Restartable state (UEO)",
+            "Recoverable state (UER)",
+            "",
+            "",
+            "Corrected (CE)",
+        ],
+        "TA" => &[
+            "Exception was not caused by trapped use of Advanced SIMD functionality",
+            "Exception was caused by trapped use of Advanced SIMD functionality",
+        ],
+        _ if !has_syndrome => &[],
+        "SAS" => &["Byte", "Halfword", "Word", "Doubleword"],
+        "SSE" => &["Sign-extension not required", "Data item must be sign-extended"],
+        "SF" => &[
+            "Instruction loads/stores a 32-bit wide register",
+            "Instruction loads/stores a 64-bit wide register",
+        ],
+        "AR" => &[
+            "Instruction did not have acquire/release semantics",
+            "Instruction did have acquire/release semantics",
+        ],
+        "EX" => &[
+            "An instruction other than a Load-Exclusive instruction was stepped",
+            "A Load-Exclusive instruction was stepped",
+        ],
+        _ => &[],
+    };
+    texts.get(value as usize).filter(|text| !text.is_empty()).map(|&text| text.into())
+}
+
+fn direction(class: u32, value: u32) -> String {
+    let reads = value == 1;
+    let text = match (class, reads) {
+        (0x06, false) => "Write to memory, STC instruction",
+        (0x06, true) => "Read from memory, LDC instruction",
+        (0x04 | 0x0c, false) => "Write to System register space, MCRR instruction",
+        (0x04 | 0x0c, true) => "Read from System register space, MRRC instruction",
+        (0x18, false) => "Write access, including MSR instructions",
+        (0x18, true) => "Read access, including MRS instructions",
+        (_, false) => "Write to System register space, MCR instruction",
+        (_, true) => "Read from System register space, MRC or VMRS instruction",
+    };
+    text.into()
+}
+
+/// Words of every class and kind, in editions that have them and that don't,
+/// whole traps, short words, and lines that are none.
+pub fn questions() -> String {
+    let words = [
+        0x0200_0000u64,
+        0x0000_0000,
+        0x07e0_0001,
+        0x07e0_0000,
+        0x06f0_0000,
+        0x07f0_0000,
+        0x0fe0_0001,
+        0x0fe8_4c20,
+        0x13e1_0841,
+        0x17e0_0001,
+        0x1be0_1003,
+        0x1bea_50d4,
+        0x1be0_0009,
+        0x1a00_000d,
+        0x1fe0_0000,
+        0x1e50_0000,
+        0x23e7_c001,
+        0x33e1_0801,
+        0x3a00_0000,
+        0x4600_0012,
+        0x4400_0012,
+        0x4a00_0001,
+        0x4a01_0000,
+        0x4e00_0000,
+        0x4fe8_0000,
+        0x5a00_0000,
+        0x8200_0010,
+        0x8200_1010,
+        0x8200_1810,
+        0x8200_0610,
+        0x8200_0087,
+        0x8200_0021,
+        0x8a00_0000,
+        0x9383_0045,
+        0x9363_4007,
+        0x93a3_0006,
+        0x9183_0005,
+        0x9000_0005,
+        0x9383_0085,
+        0x9200_0144,
+        0x9200_0018,
+        0x9200_001b,
+        0x9200_0013,
+        0x9200_0029,
+        0x9200_002b,
+        0x9200_0008,
+        0x9200_000c,
+        0x9200_0031,
+        0x9200_0034,
+        0x9200_0035,
+        0x9200_0030,
+        0x9200_1010,
+        0x9200_0810,
+        0x9383_0014,
+        0x9383_0013,
+        0x1_9200_0005,
+        0xbe00_0000,
+        0xbe00_0011,
+        0xbe00_1a11,
+        0xbe00_0400,
+        0xc200_0022,
+        0xc200_0021,
+        0xca00_0022,
+        0xcb00_0062,
+        0xca00_0062,
+        0xd200_0022,
+        0xd200_0162,
+        0xd200_0122,
+        0xe000_0003,
+        0xe200_0103,
+        0xea00_0022,
+        0xffff_ffff,
+    ];
+    let mut text = String::new();
+    for (at, word) in words.into_iter().enumerate() {
+        for edition in [0, 7, at as u32 % 16] {
+            text += &format!("{edition:x} {word:016x}\n");
+        }
+    }
+    for code in 0..64u32 {
+        text += &format!("{:x} {:016x}\n", code % 16, 0x9200_0000 + code);
+        text += &format!("{:x} {:016x}\n", 15 - code % 16, 0x8200_0000 + code);
+    }
+    let traps = [
+        (0x9200_0005u64, 0x8abcu64, 0x12340u64),
+        (0x9200_0085, 0x8abc, 0x12340),
+        (0x9200_000f, 0x8abc, u64::MAX),
+        (0x9200_008f, 0x8abc, 0x12340),
+        (0x9200_0410, u64::MAX, u64::MAX),
+        (0x9200_0010, 0x8abc, u64::MAX),
+        (0x9200_0005, 0x1_0000_0000, 0x12340),
+        (0x9200_0005, 0x8abc, 0x12341),
+        (0x9200_0005, 0x8abc, 0x100_0000_0000),
+        (0x8200_0007, 0x4000, 0x40000),
+        (0x8a00_0000, 0x8001, 0),
+        (0xd200_0062, 0x1004, u64::MAX),
+        (0x4a00_0001, u64::MAX, u64::MAX),
+        (0x9200_0018, 0x8abc, 0),
+        (0x9000_0005, 0, 0),
+    ];
+    for (esr, far, hpfar) in traps {
+        for edition in [0, 1, 8] {
+            text += &format!("{edition:x} {esr:016x} {far:016X} {hpfar:016x}\n");
+        }
+    }
+    let shorts = [
+        0x0200_0000u32,
+        0x07e0_0001,
+        0x0fe0_0001,
+        0x13e1_0841,
+        0x1be0_1003,
+        0x1fe0_002a,
+        0x1fe0_0020,
+        0x1fe0_0000,
+        0x4600_0012,
+        0x4fe8_0000,
+        0x5a00_0000,
+        0x8200_0007,
+        0x8200_0018,
+        0x8800_0000,
+        0x9383_0045,
+        0x9200_0410,
+        0x9200_0011,
+        0x9200_0811,
+        0x9200_0c11,
+        0x9200_0051,
+        0x9200_0019,
+        0x9200_0022,
+        0x9000_0005,
+        0x9200_0008,
+    ];
+    for hsr in shorts {
+        for edition in 0..3 {
+            text += &format!("short {edition} {hsr:08x}\n");
+        }
+    }
+    text + NO_LINES
+}
+
+/// Lines that ask nothing, and some that do between them.
+const NO_LINES: &str = "x\n\n0 92000005\n0 0x00000000920005\n0 0000000092000005\r\nshort 0 0000000092000005\n\
+    short0 92000005\nShort 0 92000005\nshort  92000005\nshort 0_92000005\nshort g 92000005\nshort 0 9200000g\n\
+    0 0000000092000005 0000000000008abc\n0 0000000092000005 0000000000008abc 0000000000012340 \n\
+    0 0000000092000005_0000000000008abc 0000000000012340\n0 0000000092000005 0000000000008abc_0000000000012340\n\
+    0 0000000092000005 000000000000 abc 0000000000012340\n0 0000000092000005 0000000000008abc 000000000001234g\n\
+    g 0000000092000005 0000000000008abc 0000000000012340\n0 0000000092000005";
