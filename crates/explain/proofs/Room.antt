@@ -97,7 +97,8 @@ hpfar-length : (e : ℕ) → length (hpfarText e) ≤ 100
 hpfar-length e = go (lpa e)
   where
     go : (t : Bool)
-        → length (cond t (ascii "refused 7: a bit of HPFAR outside 43:4 is set\n") (ascii "refused 7: a bit of HPFAR outside 39:4 is set\n"))
+        → length (cond t (ascii "refused 7: a bit of HPFAR outside 43:4 is set\n")
+        (ascii "refused 7: a bit of HPFAR outside 39:4 is set\n"))
         ≤ 100
     go true = omega arith
     go false = omega arith

@@ -1,6 +1,6 @@
-// Says in words what an edition makes of a trap from AArch32. A question is a line: an edition and a syndrome word, as trapread has them; the
-// same with FAR and HPFAR behind it; or, after the word `short`, a short edition and a word of the short form. The program's arguments are
-// one line, and without any it reads lines from standard input.
+// Says in words what an edition makes of a trap from AArch32. A question is a line: an edition and a syndrome word, as trapread has them;
+// the same with FAR and HPFAR behind it; or, after the word `short`, a short edition and a word of the short form. The program's arguments
+// are one line, and without any it reads lines from standard input.
 //
 // Input and lines may have any length: a chunk of the input is held at a time, and of a line what `question` keeps of it. The answers to a
 // chunk are written before the next one is read.

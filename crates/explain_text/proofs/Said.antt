@@ -48,7 +48,8 @@ module _ (e : ℕ) (esr : Esr) where
       ap wordText (sym (x .1)) ∙ had-said e r (x .0)
 
   -- a word that other editions have
-  six-said : (mask count : ℕ) → readOf o e esr ≡ Read.Refused (OtherEditions mask count) → wordText (esr .0) ≡ recordText (recordAt (esr .0))
+  six-said : (mask count : ℕ) → readOf o e esr ≡ Read.Refused (OtherEditions mask count)
+      → wordText (esr .0) ≡ recordText (recordAt (esr .0))
   six-said mask count is =
       let some = read-six-exactly o e esr mask count .0 is .0 .2 in
       let found = has-word-exactly o (some .0) (esr .0) .0 (some .2) in
@@ -75,7 +76,8 @@ module _ (e : ℕ) (esr : Esr) where
     answer-said (Answer.Shown t) is =
         let x = shown-exactly o e esr far hpfar t .0 is in
         let same : recordIn t ≡ x .syndrome = shown-holds o e esr far hpfar t (x .syndrome) is (x .taken) .0 in
-        ap (λ (fields : List ℕ). ascii "taken\n" ++ fields ++ addressesText t) (taken-said (x .syndrome) (x .taken) ∙ ap recordText (sym same))
+        ap (λ (fields : List ℕ). ascii "taken\n" ++ fields ++ addressesText t)
+        (taken-said (x .syndrome) (x .taken) ∙ ap recordText (sym same))
     answer-said (Answer.Refused (TrapRefusal.Syndrome refusal)) is = refused-said refusal (refused-alike o e esr far hpfar refusal .0 is)
     answer-said (Answer.Refused TrapRefusal.Hpfar) is = refl
     answer-said (Answer.Refused TrapRefusal.Far) is = refl

@@ -39,7 +39,8 @@ addressesText (Trap.Plain r) = ascii "no address: this class has none\n"
 
 -- the page field of HPFAR is 43:4 with LPA, else 39:4
 abbrev pub hpfarText : ℕ → List ℕ
-hpfarText e = cond (lpa e) (ascii "refused 7: a bit of HPFAR outside 43:4 is set\n") (ascii "refused 7: a bit of HPFAR outside 39:4 is set\n")
+hpfarText e = cond (lpa e) (ascii "refused 7: a bit of HPFAR outside 43:4 is set\n")
+    (ascii "refused 7: a bit of HPFAR outside 39:4 is set\n")
 
 abbrev pub trapRefused : ℕ → ℕ → TrapRefusal → List ℕ
 trapRefused e w (TrapRefusal.Syndrome refusal) = refusedText w refusal

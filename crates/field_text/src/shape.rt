@@ -1,6 +1,6 @@
-// The rows: EC and IL, and for each shape of word its other fields, from the highest, each with its label, its bits and the list of its values.
-// Labels and lists have their numbers in crate `names`. Which shape a word has goes by its class and bit 24, and is said where a form's records
-// are put into words.
+// The rows: EC and IL, and for each shape of word its other fields, from the highest, each with its label, its bits and the list of its
+// values. Labels and lists have their numbers in crate `names`. Which shape a word has goes by its class and bit 24, and is said where a
+// form's records are put into words.
 ghost use Prim.Native.Nat.{_<_};
 ghost use mathlib.Core.Path.{_≡_};
 ghost use lib.ListN.{getD};

@@ -48,7 +48,8 @@ module _ {A : Type 0} where
 
   -- LIST k is what stands between its start and its end
   pub cut-at : (ls : List (List A)) (k : ℕ) → k < length ls
-      → take (getD (startsFrom 0 ls) (suc k) 0 - getD (startsFrom 0 ls) k 0) (drop (getD (startsFrom 0 ls) k 0) (together ls)) ≡ getD ls k []
+      → take (getD (startsFrom 0 ls) (suc k) 0 - getD (startsFrom 0 ls) k 0) (drop (getD (startsFrom 0 ls) k 0) (together ls))
+      ≡ getD ls k []
   cut-at ls k h =
       let size : getD (startsFrom 0 ls) (suc k) 0 - getD (startsFrom 0 ls) k 0 ≡ length (getD ls k []) = omega (arith, ends-at ls k h) in
       rw (size, start-at ls k (omega arith), around ls k h, drop-append-seam, take-append-seam)

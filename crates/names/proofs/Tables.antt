@@ -33,7 +33,8 @@ module _ (n : ℕ) (h : n < 304) where
   pub text-within : getD (startsFrom 0 texts) (n + 1) 0 ≤ 7290
   text-within = rw add-one (rw bytes-many at (ends-within texts n known))
 
-  pub text-cut : take (getD (startsFrom 0 texts) (n + 1) 0 - getD (startsFrom 0 texts) n 0) (drop (getD (startsFrom 0 texts) n 0) (together texts))
+  pub text-cut : take (getD (startsFrom 0 texts) (n + 1) 0 - getD (startsFrom 0 texts) n 0)
+      (drop (getD (startsFrom 0 texts) n 0) (together texts))
       ≡ getD texts n []
   text-cut = rw add-one (cut-at texts n known)
 

@@ -1,5 +1,5 @@
--- A line of the program explain. In trapread's manner: an edition and a syndrome word (crate line). With the two address registers behind it,
--- ESR, FAR and HPFAR, each of 16 hexadecimal digits: a whole trap. After the word `short`: a short edition and a word of 8 hexadecimal
+-- A line of the program explain. In trapread's manner: an edition and a syndrome word (crate line). With the two address registers behind
+-- it, ESR, FAR and HPFAR, each of 16 hexadecimal digits: a whole trap. After the word `short`: a short edition and a word of 8 hexadecimal
 -- digits. Every other line is no line.
 use Prim.Native.Nat.{ℕ, _%_, _^_}
 use Prim.Native.Char.{code}

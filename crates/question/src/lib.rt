@@ -1,5 +1,5 @@
-// A line of the program explain: an edition and a syndrome word, as trapread has it; the same with FAR and HPFAR behind it; or, after the word
-// `short`, a short edition and a word of 8 digits.
+// A line of the program explain: an edition and a syndrome word, as trapread has it; the same with FAR and HPFAR behind it; or, after the
+// word `short`, a short edition and a word of 8 digits.
 //
 // `parse` reads a whole line. `start`, `feed` and `finish` read one of any length, a byte at a time.
 ghost use mathlib.Core.Path.{_≡_};

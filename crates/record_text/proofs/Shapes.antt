@@ -49,8 +49,10 @@ pub rows-agree : (r : Record) → headOf r .own ≡ true → (b : Bool) → At (
 unfolding shapeRows rowAt rowLabels rowHighs rowLows rowLists shapeFirsts shapeCounts labelAt valuesAt labels sources
 rows-agree (Record.Plain r) own b =
     both (λ t. At (r .class) t (namesOf (Record.Plain r)) (fieldsOf (Record.Plain r)))
-    (among-each plainClasses (λ c. At c true (namesOf (Record.Plain r)) (fieldsOf (Record.Plain r))) (refl, (refl, (refl, tt))) (r .class) own)
-    (among-each plainClasses (λ c. At c false (namesOf (Record.Plain r)) (fieldsOf (Record.Plain r))) (refl, (refl, (refl, tt))) (r .class) own)
+    (among-each plainClasses (λ c. At c true (namesOf (Record.Plain r)) (fieldsOf (Record.Plain r))) (refl, (refl, (refl, tt))) (r .class)
+    own)
+    (among-each plainClasses (λ c. At c false (namesOf (Record.Plain r)) (fieldsOf (Record.Plain r))) (refl, (refl, (refl, tt))) (r .class)
+    own)
     b
 rows-agree (Record.Wfx r) own b = both (λ t. At 0x01 t (wfxNames t) (fieldsOf (Record.Wfx r))) refl refl (r .cv)
 rows-agree (Record.Mcr r) own b =

@@ -1,5 +1,6 @@
--- What the fields of each kind of record are called in the manual (source 001), and what their values mean there, in the order of the layout
--- lines (crate layout, specs/Fields.antt). A field that another one makes UNKNOWN or RES0, by its value, is said to be so or says nothing.
+-- What the fields of each kind of record are called in the manual (source 001), and what their values mean there, in the order of the
+-- layout lines (crate layout, specs/Fields.antt). A field that another one makes UNKNOWN or RES0, by its value, is said to be so or says
+-- nothing.
 use mathlib.Core.Bool.{Bool, cond}
 use mathlib.Core.List.{List, [], _∷_}
 use lib.Dec.{eqb}

@@ -34,8 +34,8 @@ fits (a ∷ rest) e = meets a e && fits rest e
 abbrev pub editionsOf : Bool → ℕ
 editionsOf short = cond short 2 16
 
--- what the editions that have a word can ask, where some have it and some don't: a word that every edition has asks nothing, and no word asks
--- for LPA, or to be without it. The short form's editions differ in RAS alone
+-- what the editions that have a word can ask, where some have it and some don't: a word that every edition has asks nothing, and no word
+-- asks for LPA, or to be without it. The short form's editions differ in RAS alone
 abbrev pub setsOf : Bool → List (List Asked)
 setsOf true = (lacks RAS ∷ []) ∷ (has RAS ∷ []) ∷ []
 setsOf false = (has LPA2 ∷ []) ∷ (lacks RAS ∷ []) ∷ (has LPA2 ∷ lacks RAS ∷ []) ∷ (has HAFDBS ∷ []) ∷ (has RAS ∷ []) ∷ []

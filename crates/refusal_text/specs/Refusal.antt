@@ -1,5 +1,5 @@
--- A refusal in words (01, 'Numbers a call may answer'): its number and the test that failed, with the bits that it looks at; and with 6 what
--- the editions that have the word ask of a board, and which editions they are, as they are typed.
+-- A refusal in words (01, 'Numbers a call may answer'): its number and the test that failed, with the bits that it looks at; and with 6
+-- what the editions that have the word ask of a board, and which editions they are, as they are typed.
 use Prim.Native.Nat.{ℕ, zero, suc}
 use mathlib.Core.Bool.{Bool, cond}
 use mathlib.Core.List.{List, [], _∷_, _++_}

@@ -1,5 +1,5 @@
--- Inner contracts, which nobody has to believe: the shape of a short word, by its class, bit 24 and whether it is an SError interrupt's, and
--- its lines. The short form's shapes stand behind the 128 of the long form.
+-- Inner contracts, which nobody has to believe: the shape of a short word, by its class, bit 24 and whether it is an SError interrupt's,
+-- and its lines. The short form's shapes stand behind the 128 of the long form.
 use Prim.Native.Nat.{ℕ, _+_, _*_}
 use mathlib.Core.Bool.{Bool, true, cond, _&&_}
 use mathlib.Core.List.{List, [], _++_}

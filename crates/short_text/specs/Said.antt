@@ -1,5 +1,5 @@
--- WHAT IS SAID OF A SHORT WORD in a short edition: that it is taken, and the lines of its record; or the refusal in words, and with 6 the lines
--- of the record that the other edition has.
+-- WHAT IS SAID OF A SHORT WORD in a short edition: that it is taken, and the lines of its record; or the refusal in words, and with 6 the
+-- lines of the record that the other edition has.
 use Prim.Native.Nat.{ℕ}
 use mathlib.Core.Bool.{true}
 use mathlib.Core.List.{List, [], _++_}

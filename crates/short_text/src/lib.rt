@@ -1,4 +1,5 @@
-// What is said of a word of the short form, and its record as lines of text, as crates explain_text and record_text have them of the long form.
+// What is said of a word of the short form, and its record as lines of text, as crates explain_text and record_text have them of the long
+// form.
 ghost use Prim.Native.Nat.{_<_};
 ghost use mathlib.Core.Path.{_≡_};
 ghost use mathlib.Core.List.{_++_};

@@ -43,14 +43,16 @@ returns : tie.Need-returns
 returns c =
     let read = c .before .before .before .before .before in
     let a = read .before .before .args in
-    at-answer (a .origin) (a .edition) (record { 0 = a .esr }) (read .before .origin-of .ensures) (read .read .ensures .answer) (c .before .before .before .r .given .1)
+    at-answer (a .origin) (a .edition) (record { 0 = a .esr }) (read .before .origin-of .ensures) (read .read .ensures .answer)
+    (c .before .before .before .r .given .1)
     (record { answer = refl; words = c .before .words-of .ensures; editions = refl })
 
 returns-2 : tie.Need-returns-2
 returns-2 c =
     let read = c .before .before .before .before .before .before in
     let a = read .before .before .args in
-    at-answer (a .origin) (a .edition) (record { 0 = a .esr }) (read .before .origin-of .ensures) (read .read .ensures .answer) (c .before .before .before .before .refusal .given .1)
+    at-answer (a .origin) (a .edition) (record { 0 = a .esr }) (read .before .origin-of .ensures) (read .read .ensures .answer)
+    (c .before .before .before .before .refusal .given .1)
     (record { answer = c .number .ensures; words = refl; editions = c .before .editions-of .ensures })
 
 pub knucklepin-esr-read-raw-spec : {M : Type 1} → statement M

@@ -46,14 +46,16 @@ returns : tie.Need-returns
 returns c =
     let write = c .before .before .before .before in
     let a = write .before .before .before .before .args in
-    at-answer (a .origin) (a .edition) (now (a .syndrome)) (write .before .before .before .origin-of .ensures) (write .before .record-of .ensures) (write .write .ensures .answer)
+    at-answer (a .origin) (a .edition) (now (a .syndrome)) (write .before .before .before .origin-of .ensures)
+    (write .before .record-of .ensures) (write .write .ensures .answer)
     (c .before .before .word .given .1) (record { answer = refl; word = refl; editions = refl })
 
 returns-2 : tie.Need-returns-2
 returns-2 c =
     let write = c .before .before .before .before .before in
     let a = write .before .before .before .before .args in
-    at-answer (a .origin) (a .edition) (now (a .syndrome)) (write .before .before .before .origin-of .ensures) (write .before .record-of .ensures) (write .write .ensures .answer)
+    at-answer (a .origin) (a .edition) (now (a .syndrome)) (write .before .before .before .origin-of .ensures)
+    (write .before .record-of .ensures) (write .write .ensures .answer)
     (c .before .before .before .refusal .given .1)
     (record { answer = c .number .ensures; word = refl; editions = c .before .editions-of .ensures })
 

@@ -1,5 +1,5 @@
--- `field_text::rows_lines` meets its contract. The invariant: the lines of the rows that are left, appended to the text so far, give those of all.
--- Assumes nothing.
+-- `field_text::rows_lines` meets its contract. The invariant: the lines of the rows that are left, appended to the text so far, give those
+-- of all. Assumes nothing.
 use borrow.Author.Needs.{needs}
 use mathlib.Core.Path.{_≡_, refl, _∙_}
 use mathlib.Core.List.{List}

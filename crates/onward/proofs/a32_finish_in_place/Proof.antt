@@ -143,7 +143,8 @@ module _ {M : Type 1} (𝓤 : URA M) (H : Heap 𝓤) (A : Atoms 𝓤) (W : Given
           enter ! C Λ code.function (vptr b o ∷ vint w32 n ∷ values-val xs ∷ []) _ $
           alloc1 ! (λ l₀. alloc1 ! (λ l₁. alloc1 ! (λ l₂. alloc1 ! (λ l₃. alloc1 ! (λ l₄. alloc1 ! (λ l₅. alloc0 ! $ params1 ! $
           pass1 ! (init ! 8 refl (tt, tt)) $ pass1 ! (init ! 6 refl (tt, record { fits = fits }))
-          $ pass1 ! (init ! 4 {τ = tyArray (tyInt w32) 16} refl (array-lawful 𝓤 H A W u32 (uint-lawful 𝓤 H A W w32) 16 .typed xs _ is-xs .0)) $ pass0 ! $
+          $ pass1 ! (init ! 4 {τ = tyArray (tyInt w32) 16} refl
+          (array-lawful 𝓤 H A W u32 (uint-lawful 𝓤 H A W w32) 16 .typed xs _ is-xs .0)) $ pass0 ! $
           move ! (12 ∷ 13 ∷ 14 ∷ []) $ opens ! tt G.the-row {h = h} b o
           (λ vs. spelt ! G.the-row (Is G.the-row) (shows 𝓤 H A G.the-row) (SL.vals G.the-type G′.the-laws)
           (SL.tells G.the-type G′.the-laws) fullShare h vs b o $
@@ -158,7 +159,8 @@ module _ {M : Type 1} (𝓤 : URA M) (H : Heap 𝓤) (A : Atoms 𝓤) (W : Given
           use2 W (raw (Finish 𝓤 H A at-mem run .pre to-finish)) goes-finish $
           calls-at ! fm (Finish 𝓤 H A at-mem run) known to-finish
           (and-then ! (load ! (from ! (stop !)) (look ! 6 {τ = G′.mir} refl))
-          (and-then ! (load ! (from ! (stop !)) (look ! 12 {τ = tyInt w32} refl)) (and-then ! (load ! (from ! (stop !)) (look ! 10 {τ = tyArray (tyInt w32) 16} refl)) (no-more !))))
+          (and-then ! (load ! (from ! (stop !)) (look ! 12 {τ = tyInt w32} refl))
+          (and-then ! (load ! (from ! (stop !)) (look ! 10 {τ = tyArray (tyInt w32) 16} refl)) (no-more !))))
           (λ v.
           use1 W (later (some (λ (r : Finished). (‵ ftrue ⊛ ‵ (I.the-row .own r (v ∷ []))) ⊛ raw
           (ensured 𝓤 H A finish.ended (finish.clauses 𝓤 H A at-mem run) tt (h, (n, (xs, tt))) tt r)))) (id⊢ 𝓤 _) $ await ! tt $ pick ! (λ r.

@@ -25,7 +25,14 @@ mul-result c = omega (arith, c .kind-number2 .ensures, kind-small (c .before .ne
 add-result : tie.Need-add-result
 add-result c =
     let a = c .before .before .before .args .a in
-    omega (arith, c .kind-number2 .ensures, c .before .before .kind-number .ensures, kind-small a, kind-small (c .before .neighbour .result))
+    omega (
+      arith,
+      c .kind-number2 .ensures,
+      c .before .before .kind-number .ensures,
+      kind-small a,
+      kind-small
+          (c .before .neighbour .result),
+    )
 
 returns : tie.Need-returns
 returns c =

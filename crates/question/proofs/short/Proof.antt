@@ -27,7 +27,8 @@ enum-told c = search needs
 returns-2 : tie.Need-returns-2
 returns-2 c =
     let says = c .before .before .before .before in
-    sym (short-asked (now (c .before .before .before .before .before .before .before .args .line)) (sym (says .before .says-short .ensures) ∙ not-false _ (says .if1 .left))
+    sym (short-asked (now (c .before .before .before .before .before .before .before .args .line))
+    (sym (says .before .says-short .ensures) ∙ not-false _ (says .if1 .left))
     (sym (c .before .before .hex-digit .ensures) ∙ c .enum-told .given .1) refl)
 
 sub-number : tie.Need-sub-number
@@ -55,7 +56,8 @@ returns-3 c =
     let line = now (c .before .before .before .before .before .before .before .before .before .before .before .before .args .line) in
     sym (short-asked line (sym (says .before .says-short .ensures) ∙ not-false _ (says .if1 .left))
     (sym (digit .before .before .hex-digit .ensures) ∙ digit .edition .given .1)
-    (eight line (c .before .before .before .before .before .before .before .before .before .before .before .before .pre) ∙ sym (c .before .before .number .ensures) ∙ c .enum-told2 .given .1))
+    (eight line (c .before .before .before .before .before .before .before .before .before .before .before .before .pre)
+    ∙ sym (c .before .before .number .ensures) ∙ c .enum-told2 .given .1))
 
 cast-t15 : tie.Need-cast-t15
 cast-t15 c = search needs
@@ -64,10 +66,12 @@ returns-4 : tie.Need-returns-4
 returns-4 c =
     let digit = c .before .before .before .before .before .before in
     let says = c .before .before .before .before .before .before .before .before .before .before in
-    let line = now (c .before .before .before .before .before .before .before .before .before .before .before .before .before .args .line) in
+    let line = now (c .before .before .before .before .before .before .before .before .before .before .before .before .before .args .line)
+    in
     sym (short-asked line (sym (says .before .says-short .ensures) ∙ not-false _ (says .if1 .left))
     (sym (digit .before .before .hex-digit .ensures) ∙ digit .edition .given .1)
-    (eight line (c .before .before .before .before .before .before .before .before .before .before .before .before .before .pre) ∙ sym (c .before .before .before .number .ensures) ∙ c .before .hsr .given .1))
+    (eight line (c .before .before .before .before .before .before .before .before .before .before .before .before .before .pre)
+    ∙ sym (c .before .before .before .number .ensures) ∙ c .before .hsr .given .1))
 
 pub short-spec : {M : Type 1} → statement M
 short-spec =

@@ -116,13 +116,15 @@ returns-9 : tie.Need-returns-9
 unfolding recordBy
 returns-9 c =
     let w = c .before .before .args .words in
-    ap Record.InstructionAbort (c .instruction-abort-in .ensures) ∙ at-kind (λ (l : List ℕ). Record.InstructionAbort (instructionAbortIn l)) 8 w refl (c .before .match .keys9)
+    ap Record.InstructionAbort (c .instruction-abort-in .ensures)
+    ∙ at-kind (λ (l : List ℕ). Record.InstructionAbort (instructionAbortIn l)) 8 w refl (c .before .match .keys9)
 
 returns-10 : tie.Need-returns-10
 unfolding recordBy
 returns-10 c =
     let w = c .before .before .args .words in
-    ap Record.DataAbort (c .data-abort-in .ensures) ∙ at-kind (λ (l : List ℕ). Record.DataAbort (dataAbortIn l)) 9 w refl (c .before .match .keys10)
+    ap Record.DataAbort (c .data-abort-in .ensures)
+    ∙ at-kind (λ (l : List ℕ). Record.DataAbort (dataAbortIn l)) 9 w refl (c .before .match .keys10)
 
 returns-11 : tie.Need-returns-11
 unfolding recordBy
@@ -140,7 +142,8 @@ returns-13 : tie.Need-returns-13
 unfolding recordBy
 returns-13 c =
     let w = c .before .before .args .words in
-    ap Record.Watchpoint (c .watchpoint-in .ensures) ∙ at-kind (λ (l : List ℕ). Record.Watchpoint (watchpointIn l)) 12 w refl (c .before .match .keys13)
+    ap Record.Watchpoint (c .watchpoint-in .ensures)
+    ∙ at-kind (λ (l : List ℕ). Record.Watchpoint (watchpointIn l)) 12 w refl (c .before .match .keys13)
 
 returns-14 : tie.Need-returns-14
 unfolding recordBy

@@ -48,14 +48,16 @@ returns-2 : tie.Need-returns-2
 returns-2 c =
     let change = c .before .before .before in
     let a = change .before .before .before .args in
-    at-answer (a .mode) (now (a .from)) (change .before .record-of .ensures) (change .widen .ensures .answer) (c .before .enum-told .given .1)
+    at-answer (a .mode) (now (a .from)) (change .before .record-of .ensures) (change .widen .ensures .answer)
+    (c .before .enum-told .given .1)
     (record { answer = refl; words = refl })
 
 returns-3 : tie.Need-returns-3
 returns-3 c =
     let change = c .before .before .before in
     let a = change .before .before .before .args in
-    at-answer (a .mode) (now (a .from)) (change .before .record-of .ensures) (change .widen .ensures .answer) (c .before .enum-told2 .given .1)
+    at-answer (a .mode) (now (a .from)) (change .before .record-of .ensures) (change .widen .ensures .answer)
+    (c .before .enum-told2 .given .1)
     (record { answer = refl; words = refl })
 
 pub knucklepin-widen-spec : {M : Type 1} → statement M

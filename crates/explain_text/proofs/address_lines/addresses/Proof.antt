@@ -42,7 +42,8 @@ returns : tie.Need-returns
 returns c =
     let s2 = c .before .before in
     let s1 = s2 .before .before .before .before in
-    rw (ap addressesText (s1 .before .before .before .t .given .1)) (appends-both (s1 .virtual-line .ensures) (s2 .intermediate-line .ensures))
+    rw (ap addressesText (s1 .before .before .before .t .given .1))
+    (appends-both (s1 .virtual-line .ensures) (s2 .intermediate-line .ensures))
 
 same-length-2 : tie.Need-same-length-2
 same-length-2 c = search needs

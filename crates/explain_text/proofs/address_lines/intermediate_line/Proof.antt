@@ -64,7 +64,8 @@ returns-2 c =
     let s3 = c .before .before in
     let s2 = s3 .before .before .before .before .before in
     let s1 = s2 .before .before .before .before in
-    rw (ap intermediateText (s1 .before .before .before .before .address .given .1)) (appends-both (appends-both (s1 .append2 .ensures) (s2 .append-hex .ensures)) (s3 .append3 .ensures))
+    rw (ap intermediateText (s1 .before .before .before .before .address .given .1))
+    (appends-both (appends-both (s1 .append2 .ensures) (s2 .append-hex .ensures)) (s3 .append3 .ensures))
 
 same-length-3 : tie.Need-same-length-3
 same-length-3 c = search needs
@@ -74,7 +75,8 @@ returns-3 c =
     let s3 = c .before .before in
     let s2 = s3 .before .before .before .before .before in
     let s1 = s2 .before .before .before .before in
-    rw (ap intermediateText (s1 .before .before .before .before .address2 .given .1)) (appends-both (appends-both (s1 .append4 .ensures) (s2 .append-hex2 .ensures)) (s3 .append5 .ensures))
+    rw (ap intermediateText (s1 .before .before .before .before .address2 .given .1))
+    (appends-both (appends-both (s1 .append4 .ensures) (s2 .append-hex2 .ensures)) (s3 .append5 .ensures))
 
 pub intermediate-line-spec : {M : Type 1} → statement M
 intermediate-line-spec =

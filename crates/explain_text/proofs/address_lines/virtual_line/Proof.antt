@@ -40,7 +40,8 @@ returns c =
     let s3 = c .before .before in
     let s2 = s3 .before .before .before .before .before in
     let s1 = s2 .before .before .before .before in
-    rw (ap virtualText (s1 .before .before .before .before .address .given .1)) (appends-both (appends-both (s1 .append .ensures) (s2 .append-hex .ensures)) (s3 .append2 .ensures))
+    rw (ap virtualText (s1 .before .before .before .before .address .given .1))
+    (appends-both (appends-both (s1 .append .ensures) (s2 .append-hex .ensures)) (s3 .append2 .ensures))
 
 same-length-2 : tie.Need-same-length-2
 same-length-2 c = search needs

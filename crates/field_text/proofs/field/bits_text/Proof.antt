@@ -30,7 +30,8 @@ returns-2 c =
     let s3 = c .before .before in
     let s2 = s3 .before .before .before .before in
     let s1 = s2 .before .before .before .before .before .before in
-    simp (ne-eqb _ _ (s2 .before .before .before .if1 .left)) (appends-both (appends-both (s1 .append-decimal .ensures) (s2 .append .ensures)) (s3 .append-decimal2 .ensures))
+    simp (ne-eqb _ _ (s2 .before .before .before .if1 .left))
+    (appends-both (appends-both (s1 .append-decimal .ensures) (s2 .append .ensures)) (s3 .append-decimal2 .ensures))
 
 pub bits-text-spec : {M : Type 1} → statement M
 bits-text-spec =

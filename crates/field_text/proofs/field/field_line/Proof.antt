@@ -49,7 +49,9 @@ returns c =
     let s2 = s3 .before .before .before .before in
     let s1 = s2 .before .before .before .before .before in
     let value = s1 .before .before .field .ensures in
-    appends-both (appends-both (appends-both (appends-both (appends-both (appends-both (s1 .label .ensures) (s2 .append .ensures)) (s3 .bits-text .ensures)) (s4 .append2 .ensures)) (rw value at (s5 .append-hex .ensures))) (rw value at (s6 .meaning .ensures))) (s7 .append3 .ensures)
+    appends-both (appends-both (appends-both (appends-both
+    (appends-both (appends-both (s1 .label .ensures) (s2 .append .ensures)) (s3 .bits-text .ensures)) (s4 .append2 .ensures))
+    (rw value at (s5 .append-hex .ensures))) (rw value at (s6 .meaning .ensures))) (s7 .append3 .ensures)
 
 pub field-line-spec : {M : Type 1} → statement M
 field-line-spec =

@@ -101,13 +101,15 @@ returns-9 : tie.Need-returns-9
 unfolding recordBy
 returns-9 c =
     let w = c .before .before .args .words in
-    ap Record.InstructionAbort (c .instruction-abort-in .ensures) ∙ at-kind (λ (l : List ℕ). Record.InstructionAbort (instructionAbortIn l)) 8 w refl (c .before .match .keys9)
+    ap Record.InstructionAbort (c .instruction-abort-in .ensures)
+    ∙ at-kind (λ (l : List ℕ). Record.InstructionAbort (instructionAbortIn l)) 8 w refl (c .before .match .keys9)
 
 returns-10 : tie.Need-returns-10
 unfolding recordBy
 returns-10 c =
     let w = c .before .before .args .words in
-    ap Record.DataAbort (c .data-abort-in .ensures) ∙ at-kind (λ (l : List ℕ). Record.DataAbort (dataAbortIn l)) 9 w refl (c .before .match .keys10)
+    ap Record.DataAbort (c .data-abort-in .ensures)
+    ∙ at-kind (λ (l : List ℕ). Record.DataAbort (dataAbortIn l)) 9 w refl (c .before .match .keys10)
 
 returns-11 : tie.Need-returns-11
 unfolding recordBy
