@@ -25,7 +25,7 @@ struct Program {
     inputs: fn() -> Vec<(String, Vec<u8>)>,
 }
 
-const PROGRAMS: [Program; 7] = [
+const PROGRAMS: [Program; 8] = [
     Program { name: "trapread", answers: trapread, inputs: trapread_inputs },
     Program { name: "explain", answers: explain::explain, inputs: explain_inputs },
     Program { name: "logread", answers: logread, inputs: log_runs::inputs },
