@@ -258,7 +258,8 @@ mod tests {
         ];
         let files = files().expect("the cases of the paper");
         let mut given: BTreeMap<String, (usize, BTreeSet<String>)> = BTreeMap::new();
-        for file in files.chunks(2) {
+        // explain's questions are no rows: they name no call.
+        for file in files.chunks(2).filter(|file| !file[0].name.starts_with("explain/")) {
             for (question, answer) in lines(&file[0].bytes).zip(lines(&file[1].bytes)) {
                 if answer == b"no row" {
                     continue;
