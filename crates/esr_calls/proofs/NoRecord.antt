@@ -8,7 +8,7 @@ use Rattle.bits.specs.Decide.{Test, needs, decide}
 use Rattle.edition.specs.Feature.{editions, isEdition}
 use Rattle.form.specs.Call.{someHas}
 use Rattle.record.specs.declared.origin.Origin.{Origin}
-use Rattle.record_words.specs.Reading.{noRecord}
+use Rattle.record_of_words.specs.Reading.{noRecord}
 use Rattle.rule.specs.Has.{recordIl, has, editionsOf}
 use Rattle.rule.proofs.Having.{origin-lacks}
 use Rattle.syndrome.specs.Writing.{writeList}

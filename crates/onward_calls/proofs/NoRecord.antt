@@ -5,7 +5,7 @@ use mathlib.Core.Bool.{false, not}
 use Prim.Native.Nat.{ℕ}
 use lib.Dec.{eqb}
 use Rattle.record.specs.declared.origin.Origin.{Origin}
-use Rattle.record_words.specs.Reading.{noRecord}
+use Rattle.record_of_words.specs.Reading.{noRecord}
 use Rattle.rule.proofs.Having.{origin-lacks}
 use Rattle.exception.specs.declared.state.Guest.{Guest}
 use Rattle.step.specs.Over.{stepNumber, had, steppedOver}

@@ -3,9 +3,9 @@
 ghost use mathlib.Core.Path.{_≡_};
 ghost use Rattle.step.specs.Condition.{passes};
 ghost use Rattle.record_words.specs.Words.{flag};
-ghost use Rattle.record_words.specs.Reading.{recordOf};
+ghost use Rattle.record_of_words.specs.Reading.{recordOf};
 ghost use Rattle.onward_calls.specs.Calls.{Stepping, storedIn, Finishing, firstIn, secondIn, Transferring};
-use record_words::record_of;
+use record_of_words::record_of;
 use state_words::state_of;
 use state_words::words_of;
 

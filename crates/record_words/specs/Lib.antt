@@ -1,3 +1,2 @@
 -- Records of the long form as sixteen words.
 pub mod Words
-pub mod Reading

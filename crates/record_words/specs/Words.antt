@@ -21,7 +21,7 @@ use Rattle.record.specs.declared.kinds.SError.{SError}
 use Rattle.record.specs.declared.kinds.System.{System}
 use Rattle.record.specs.declared.kinds.Record.{Record}
 
--- a flag is 1, or 0 where it is false (`flag-true` and `flag-false`, proofs/Alike.antt): what the language makes of a bool
+-- a flag is 1, or 0 where it is false (`flag-true` and `flag-false`, crate record_of_words): what the language makes of a bool
 abbrev pub flag : Bool → ℕ
 flag b = boolByte b
 

@@ -6,8 +6,8 @@ use mathlib.Core.List.{List}
 use Prim.Native.Nat.{ℕ}
 use lib.ListN.{length}
 use Rattle.short_record.specs.declared.kinds.Record.{Record}
-use Rattle.record_words.specs.Reading.{wordIn, sameBelow}
-use Rattle.record_words.proofs.Alike.{flag-back, same-all, same-lists}
+use Rattle.record_of_words.specs.Reading.{wordIn, sameBelow}
+use Rattle.record_of_words.proofs.Alike.{flag-back, same-all, same-lists}
 use Rattle.short_words.specs.Words.{wordsOf}
 use Rattle.short_words.specs.Reading.{recordBy, noRecord, isRecord, recordOf}
 

@@ -10,7 +10,7 @@ use Rattle.short_record.specs.declared.kinds.Simd.{Simd}
 use Rattle.short_record.specs.declared.kinds.InstructionAbort.{InstructionAbort}
 use Rattle.short_record.specs.declared.kinds.DataAbort.{DataAbort}
 use Rattle.short_record.specs.declared.kinds.Record.{Record}
-use Rattle.record_words.specs.Reading.{wordIn, flagIn, plainIn, wfxIn, callIn, smcIn, sameBelow}
+use Rattle.record_of_words.specs.Reading.{wordIn, flagIn, plainIn, wfxIn, callIn, smcIn, sameBelow}
 use Rattle.short_words.specs.Words.{wordsOf}
 
 abbrev pub mcrIn : List ℕ → Mcr

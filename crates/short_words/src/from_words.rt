@@ -4,11 +4,11 @@ ghost use Rattle.short_words.specs.Reading.{mcrIn, mcrrIn, ldcIn, simdIn
 ghost use Rattle.short_words.specs.Reading.{recordOf};
 use super::to_words::words_of;
 use record::Plain;
-use record_words::call_in;
-use record_words::plain_in;
-use record_words::same;
-use record_words::smc_in;
-use record_words::wfx_in;
+use record_of_words::call_in;
+use record_of_words::plain_in;
+use record_of_words::same;
+use record_of_words::smc_in;
+use record_of_words::wfx_in;
 use short_record::DataAbort;
 use short_record::InstructionAbort;
 use short_record::Ldc;

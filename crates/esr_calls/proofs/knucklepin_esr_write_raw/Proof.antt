@@ -7,7 +7,7 @@ use Prim.Native.Nat.{ℕ}
 use denote.Ref.{now}
 use Rattle.record.specs.declared.origin.Origin.{Origin}
 use Rattle.record.specs.declared.kinds.Record.{Record}
-use Rattle.record_words.specs.Reading.{recordOf}
+use Rattle.record_of_words.specs.Reading.{recordOf}
 use Rattle.syndrome.specs.Writing.{writeOf}
 use Rattle.syndrome.specs.declared.answer.Written.{Written}
 use Rattle.esr_calls.specs.Calls.{originOf, WrittenWords}

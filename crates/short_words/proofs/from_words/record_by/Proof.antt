@@ -7,7 +7,7 @@ use borrow.Author.Tests.{ne-eqb}
 use Prim.Native.Nat.{ℕ}
 use Rattle.bits.proofs.Among.{OfArm, arm-each}
 use Rattle.short_record.specs.declared.kinds.Record.{Record}
-use Rattle.record_words.specs.Reading.{plainIn, wfxIn, callIn, smcIn}
+use Rattle.record_of_words.specs.Reading.{plainIn, wfxIn, callIn, smcIn}
 use Rattle.short_words.specs.Reading.{mcrIn, mcrrIn, ldcIn, simdIn, instructionAbortIn, dataAbortIn, recordBy}
 use Rattle.short_words.proofs.from_words.record_by.Statement.{statement}
 use Rattle.short_words.proofs.from_words.record_by.Tie as tie

@@ -8,7 +8,7 @@ use Prim.Native.Nat.{ℕ}
 use Rattle.bits.proofs.Arms.{told}
 use Rattle.short_record.specs.declared.kinds.Record.{Record}
 use Rattle.short_words.specs.Words.{wordsOf}
-use Rattle.record_words.specs.Reading.{wordIn, sameBelow}
+use Rattle.record_of_words.specs.Reading.{wordIn, sameBelow}
 use Rattle.short_words.specs.Reading.{recordBy, noRecord, recordOf}
 use Rattle.short_words.proofs.from_words.record_of.Statement.{statement}
 use Rattle.short_words.proofs.from_words.record_of.Tie as tie

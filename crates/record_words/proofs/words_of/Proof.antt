@@ -1,10 +1,10 @@
--- `record_words::to_words::words_of` meets its contract: each arm's words are its kind's.
+-- `record_words::words_of` meets its contract: each arm's words are its kind's.
 -- Assumes nothing.
 use borrow.Author.Needs.{needs}
 use Rattle.bits.proofs.Arms.{at-arm}
 use Rattle.record_words.specs.Words.{wordsOf}
-use Rattle.record_words.proofs.to_words.words_of.Statement.{statement}
-use Rattle.record_words.proofs.to_words.words_of.Tie as tie
+use Rattle.record_words.proofs.words_of.Statement.{statement}
+use Rattle.record_words.proofs.words_of.Tie as tie
 
 enum-known-r : tie.Need-enum-known-r
 enum-known-r c = search needs

@@ -1,9 +1,8 @@
-// The record whose words some words are. Others are the words of none, and are taken for a record that no edition has.
+// The record of the long form whose words some words are. Others are the words of none, and are taken for a record that no edition has.
 ghost use mathlib.Core.Path.{_≡_};
-ghost use Rattle.record_words.specs.Reading.{plainIn, wfxIn, mcrIn, mcrrIn, ldcIn, simdIn, callIn, smcIn, instructionAbortIn};
-ghost use Rattle.record_words.specs.Reading.{dataAbortIn, debugIn, stepIn, watchpointIn, serrorIn, systemIn, noRecord};
-ghost use Rattle.record_words.specs.Reading.{recordBy, sameBelow, recordOf};
-use super::to_words::words_of;
+ghost use Rattle.record_of_words.specs.Reading.{plainIn, wfxIn, mcrIn, mcrrIn, ldcIn, simdIn, callIn, smcIn, instructionAbortIn};
+ghost use Rattle.record_of_words.specs.Reading.{dataAbortIn, debugIn, stepIn, watchpointIn, serrorIn, systemIn, noRecord};
+ghost use Rattle.record_of_words.specs.Reading.{recordBy, sameBelow, recordOf};
 use record::Call;
 use record::DataAbort;
 use record::Debug;
@@ -20,6 +19,7 @@ use record::Step;
 use record::System;
 use record::Watchpoint;
 use record::Wfx;
+use record_words::words_of;
 
 pub fn plain_in(words: [u32; 16]) -> Plain
     ensures { λ r. ⌜ r ≡ plainIn words ⌝ }

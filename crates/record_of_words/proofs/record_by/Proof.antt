@@ -1,4 +1,4 @@
--- `record_words::from_words::record_by` meets its contract: each arm's number is its kind's.
+-- `record_of_words::record_by` meets its contract: each arm's number is its kind's.
 -- Assumes nothing.
 use borrow.Author.Needs.{needs}
 use mathlib.Core.Path.{_≡_, refl, _∙_, ap}
@@ -7,10 +7,10 @@ use borrow.Author.Tests.{ne-eqb}
 use Prim.Native.Nat.{ℕ}
 use Rattle.bits.proofs.Among.{OfArm, arm-each}
 use Rattle.record.specs.declared.kinds.Record.{Record}
-use Rattle.record_words.specs.Reading.{plainIn, wfxIn, mcrIn, mcrrIn, ldcIn, simdIn, callIn, smcIn, instructionAbortIn}
-use Rattle.record_words.specs.Reading.{dataAbortIn, debugIn, stepIn, watchpointIn, serrorIn, systemIn, recordBy}
-use Rattle.record_words.proofs.from_words.record_by.Statement.{statement}
-use Rattle.record_words.proofs.from_words.record_by.Tie as tie
+use Rattle.record_of_words.specs.Reading.{plainIn, wfxIn, mcrIn, mcrrIn, ldcIn, simdIn, callIn, smcIn, instructionAbortIn}
+use Rattle.record_of_words.specs.Reading.{dataAbortIn, debugIn, stepIn, watchpointIn, serrorIn, systemIn, recordBy}
+use Rattle.record_of_words.proofs.record_by.Statement.{statement}
+use Rattle.record_of_words.proofs.record_by.Tie as tie
 
 -- an arm's kind is that of its number, and so of the word
 at-kind : (f : List ℕ → Record) (k : ℕ) (w : List ℕ) → f w ≡ recordBy k w → {kind : ℕ} → OfArm k [] kind → f w ≡ recordBy kind w

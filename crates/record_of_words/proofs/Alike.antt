@@ -11,8 +11,8 @@ use lib.ListN.{length, getD}
 use lib.Seq.{ext-getD}
 use borrow.Author.Tests.{ltb-true, ltb-false, eqb-true, eq-eqb}
 use Rattle.bits.proofs.Booleans.{and-left, and-right}
 use Rattle.record_words.specs.Words.{flag}
-use Rattle.record_words.specs.Reading.{sameBelow}
+use Rattle.record_of_words.specs.Reading.{sameBelow}
 
 -- what a flag is as a word
 pub flag-true : flag true ≡ 1

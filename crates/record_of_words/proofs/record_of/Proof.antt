@@ -1,4 +1,4 @@
--- `record_words::from_words::record_of` meets its contract: the record of the places where its words are these, else none.
+-- `record_of_words::record_of` meets its contract: the record of the places where its words are these, else none.
 -- Assumes nothing.
 use borrow.Author.Needs.{needs}
 use mathlib.Core.Path.{_≡_, _∙_, sym, ap}
@@ -7,10 +7,10 @@ use mathlib.Core.List.{List}
 use Prim.Native.Nat.{ℕ}
 use Rattle.bits.proofs.Arms.{told}
 use Rattle.record.specs.declared.kinds.Record.{Record}
 use Rattle.record_words.specs.Words.{wordsOf}
-use Rattle.record_words.specs.Reading.{wordIn, recordBy, noRecord, sameBelow, recordOf}
-use Rattle.record_words.proofs.from_words.record_of.Statement.{statement}
-use Rattle.record_words.proofs.from_words.record_of.Tie as tie
+use Rattle.record_of_words.specs.Reading.{wordIn, recordBy, noRecord, sameBelow, recordOf}
+use Rattle.record_of_words.proofs.record_of.Statement.{statement}
+use Rattle.record_of_words.proofs.record_of.Tie as tie
 
 -- what the test of the words says of the record that they hold
 module _ (w : List ℕ) {r : Record} {words : List ℕ} (held : r ≡ recordBy (wordIn w 0) w) (of : words ≡ wordsOf r) where

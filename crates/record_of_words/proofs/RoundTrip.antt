@@ -6,9 +6,9 @@ use mathlib.Core.List.{List}
 use Prim.Native.Nat.{ℕ}
 use lib.ListN.{length}
 use Rattle.record.specs.declared.kinds.Record.{Record}
 use Rattle.record_words.specs.Words.{wordsOf}
-use Rattle.record_words.specs.Reading.{wordIn, recordBy, noRecord, sameBelow, isRecord, recordOf}
-use Rattle.record_words.proofs.Alike.{flag-back, same-all, same-lists}
+use Rattle.record_of_words.specs.Reading.{wordIn, recordBy, noRecord, sameBelow, isRecord, recordOf}
+use Rattle.record_of_words.proofs.Alike.{flag-back, same-all, same-lists}
 
 pub sixteen : (r : Record) → length (wordsOf r) ≡ 16
 sixteen (Record.Plain r) = refl

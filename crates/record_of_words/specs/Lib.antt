@@ -1,0 +1,2 @@
+-- The record whose words some words are.
+pub mod Reading
