@@ -1,14 +1,10 @@
 use borrow.Author.Needs.{needs}
+use Rattle.layout.proofs.RoundTrip.{joined-record}
+use Rattle.record.specs.Split.{recordAt}
+use Rattle.reason.specs.Reason.{whyOf}
+use Rattle.reason.proofs.Fits.{fits-at}
 use Rattle.reason.proofs.why.Statement.{statement}
 use Rattle.reason.proofs.why.Tie as tie
-use Rattle.reason.proofs.why.Reads as reads
-use Rattle.reason.proofs.why.Lts as lts
-use Rattle.bits.proofs.field32.Reads as field32-reads
-use Rattle.layout.proofs.joined.Reads as joined-reads
-use Rattle.reason.proofs.aborts.unless.Reads as unless-reads
-use Rattle.reason.proofs.debug_exception.Reads as debug-exception-reads
-use Rattle.reason.proofs.kinds.rules.Reads as rules-reads
-use Rattle.record.proofs.record_at.Reads as record-at-reads
 
 record-at-requires : tie.Need-record-at-requires
 record-at-requires c κs = search needs
@@ -35,7 +31,20 @@ unless-requires-2 : tie.Need-unless-requires-2
 unless-requires-2 c κs = search needs
 
 returns : tie.Need-returns
-returns c = ?
+unfolding whyOf
+returns c =
+    let w = c .before .before .before .before .before .before .before .before .args .esr .0 in
+    rw (
+      c .before .field322 .ensures,
+      c .before .before .debug-exception .ensures,
+      c .before .before .before .field32 .ensures,
+      c .before .before .before .before .unless .ensures,
+      c .before .before .before .before .before .joined .ensures,
+      c .before .before .before .before .before .before .rules .ensures,
+      c .before .before .before .before .before .before .before .record-at .ensures,
+      joined-record (recordAt w) (fits-at w),
+    )
+    at (c .unless2 .ensures)
 
 pub why-spec : {M : Type 1} → statement M
 why-spec =

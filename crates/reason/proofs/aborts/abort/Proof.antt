@@ -1,11 +1,6 @@
 use borrow.Author.Needs.{needs}
 use Rattle.reason.proofs.aborts.abort.Statement.{statement}
 use Rattle.reason.proofs.aborts.abort.Tie as tie
-use Rattle.reason.proofs.aborts.abort.Reads as reads
-use Rattle.reason.proofs.aborts.abort.Lts as lts
-use Rattle.iss.proofs.external_rule.Reads as external-rule-reads
-use Rattle.iss.proofs.walk_rule.Reads as walk-rule-reads
-use Rattle.reason.proofs.aborts.unless.Reads as unless-reads
 
 walk-rule-requires : tie.Need-walk-rule-requires
 walk-rule-requires c κs = search needs
@@ -23,7 +18,7 @@ unless-requires-3 : tie.Need-unless-requires-3
 unless-requires-3 c κs = search needs
 
 returns : tie.Need-returns
-returns c = ?
+returns c = rw (c .before .unless2 .ensures, c .before .before .external-rule .ensures, c .before .before .before .unless .ensures, c .before .before .before .before .walk-rule .ensures) at (c .unless3 .ensures)
 
 pub abort-spec : {M : Type 1} → statement M
 abort-spec =

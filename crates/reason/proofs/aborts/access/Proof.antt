@@ -1,13 +1,6 @@
 use borrow.Author.Needs.{needs}
 use Rattle.reason.proofs.aborts.access.Statement.{statement}
 use Rattle.reason.proofs.aborts.access.Tie as tie
-use Rattle.reason.proofs.aborts.access.Reads as reads
-use Rattle.reason.proofs.aborts.access.Lts as lts
-use Rattle.iss.proofs.extension_rule.Reads as extension-rule-reads
-use Rattle.iss.proofs.maintenance_rule.Reads as maintenance-rule-reads
-use Rattle.reason.proofs.aborts.aarch32_access.Reads as aarch32-access-reads
-use Rattle.reason.proofs.aborts.no_syndrome.Reads as no-syndrome-reads
-use Rattle.reason.proofs.aborts.unless.Reads as unless-reads
 
 maintenance-rule-requires : tie.Need-maintenance-rule-requires
 maintenance-rule-requires c κs = search needs
@@ -37,7 +30,7 @@ unless-requires-5 : tie.Need-unless-requires-5
 unless-requires-5 c κs = search needs
 
 returns : tie.Need-returns
-returns c = ?
+returns c = rw (c .before .no-syndrome .ensures, c .before .before .unless4 .ensures, c .before .before .before .aarch32-access .ensures, c .before .before .before .before .unless3 .ensures, c .before .before .before .before .before .unless2 .ensures, c .before .before .before .before .before .before .extension-rule .ensures, c .before .before .before .before .before .before .before .unless .ensures, c .before .before .before .before .before .before .before .before .maintenance-rule .ensures) at (c .unless5 .ensures)
 
 pub access-spec : {M : Type 1} → statement M
 access-spec =

@@ -1,15 +1,6 @@
 use borrow.Author.Needs.{needs}
 use Rattle.reason.proofs.aborts.data_abort.Statement.{statement}
 use Rattle.reason.proofs.aborts.data_abort.Tie as tie
-use Rattle.reason.proofs.aborts.data_abort.Reads as reads
-use Rattle.reason.proofs.aborts.data_abort.Lts as lts
-use Rattle.reason.proofs.aborts.abort.Reads as abort-reads
-use Rattle.reason.proofs.aborts.access.Reads as access-reads
-use Rattle.reason.proofs.aborts.data_only.Reads as data-only-reads
-use Rattle.reason.proofs.aborts.some_code.Reads as some-code-reads
-use Rattle.reason.proofs.aborts.some_set.Reads as some-set-reads
-use Rattle.reason.proofs.aborts.some_syndrome.Reads as some-syndrome-reads
-use Rattle.reason.proofs.aborts.unless.Reads as unless-reads
 
 some-syndrome-requires : tie.Need-some-syndrome-requires
 some-syndrome-requires c κs = search needs
@@ -39,7 +30,7 @@ abort-requires : tie.Need-abort-requires
 abort-requires c κs = search needs
 
 returns : tie.Need-returns
-returns c = ?
+returns c = rw (c .before .access .ensures, c .before .before .unless3 .ensures, c .before .before .before .data-only .ensures, c .before .before .before .before .some-code .ensures, c .before .before .before .before .before .unless2 .ensures, c .before .before .before .before .before .before .some-set .ensures, c .before .before .before .before .before .before .before .unless .ensures, c .before .before .before .before .before .before .before .before .some-syndrome .ensures) at (c .abort .ensures)
 
 pub data-abort-spec : {M : Type 1} → statement M
 data-abort-spec =

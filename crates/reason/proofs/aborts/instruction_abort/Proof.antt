@@ -1,12 +1,6 @@
 use borrow.Author.Needs.{needs}
 use Rattle.reason.proofs.aborts.instruction_abort.Statement.{statement}
 use Rattle.reason.proofs.aborts.instruction_abort.Tie as tie
-use Rattle.reason.proofs.aborts.instruction_abort.Reads as reads
-use Rattle.reason.proofs.aborts.instruction_abort.Lts as lts
-use Rattle.reason.proofs.aborts.abort.Reads as abort-reads
-use Rattle.reason.proofs.aborts.some_code.Reads as some-code-reads
-use Rattle.reason.proofs.aborts.some_set.Reads as some-set-reads
-use Rattle.reason.proofs.aborts.unless.Reads as unless-reads
 
 some-set-requires : tie.Need-some-set-requires
 some-set-requires c κs = search needs
@@ -24,7 +18,7 @@ abort-requires : tie.Need-abort-requires
 abort-requires c κs = search needs
 
 returns : tie.Need-returns
-returns c = ?
+returns c = rw (c .before .unless2 .ensures, c .before .before .some-code .ensures, c .before .before .before .unless .ensures, c .before .before .before .before .some-set .ensures) at (c .abort .ensures)
 
 pub instruction-abort-spec : {M : Type 1} → statement M
 instruction-abort-spec =

@@ -1,11 +1,6 @@
 use borrow.Author.Needs.{needs}
 use Rattle.reason.proofs.kinds.mcrr.Statement.{statement}
 use Rattle.reason.proofs.kinds.mcrr.Tie as tie
-use Rattle.reason.proofs.kinds.mcrr.Reads as reads
-use Rattle.reason.proofs.kinds.mcrr.Lts as lts
-use Rattle.iss.proofs.direction_rule.Reads as direction-rule-reads
-use Rattle.reason.proofs.aborts.unless.Reads as unless-reads
-use Rattle.reason.proofs.kinds.condition.Reads as condition-reads
 
 direction-rule-requires : tie.Need-direction-rule-requires
 direction-rule-requires c κs = search needs
@@ -17,7 +12,7 @@ condition-requires : tie.Need-condition-requires
 condition-requires c κs = search needs
 
 returns : tie.Need-returns
-returns c = ?
+returns c = rw (c .before .unless .ensures, c .before .before .direction-rule .ensures) at (c .condition .ensures)
 
 pub mcrr-spec : {M : Type 1} → statement M
 mcrr-spec = tie.close (tie.spec direction-rule-requires unless-requires condition-requires returns)

@@ -1,20 +1,14 @@
 use borrow.Author.Needs.{needs}
+use Prim.Native.Nat.{ℕ}
+use Rattle.bits.specs.Decide.{decide}
+use Rattle.bits.proofs.Arms.{at-arm}
+use Rattle.record.specs.declared.kinds.Record.{Record}
+use Rattle.reason.specs.Reason.{ruleTests}
 use Rattle.reason.proofs.kinds.rules.Statement.{statement}
 use Rattle.reason.proofs.kinds.rules.Tie as tie
-use Rattle.reason.proofs.kinds.rules.Reads as reads
-use Rattle.reason.proofs.kinds.rules.Lts as lts
-use Rattle.reason.proofs.aborts.data_abort.Reads as data-abort-reads
-use Rattle.reason.proofs.aborts.instruction_abort.Reads as instruction-abort-reads
-use Rattle.reason.proofs.kinds.call.Reads as call-reads
-use Rattle.reason.proofs.kinds.ldc.Reads as ldc-reads
-use Rattle.reason.proofs.kinds.mcr.Reads as mcr-reads
-use Rattle.reason.proofs.kinds.mcrr.Reads as mcrr-reads
-use Rattle.reason.proofs.kinds.serror.Reads as serror-reads
-use Rattle.reason.proofs.kinds.simd.Reads as simd-reads
-use Rattle.reason.proofs.kinds.smc.Reads as smc-reads
-use Rattle.reason.proofs.kinds.step.Reads as step-reads
-use Rattle.reason.proofs.kinds.watchpoint.Reads as watchpoint-reads
-use Rattle.reason.proofs.kinds.wfx.Reads as wfx-reads
+
+abbrev numberOf : Record → ℕ
+numberOf r = decide (ruleTests r) 0
 
 enum-told : tie.Need-enum-told
 enum-told c = search needs
@@ -101,43 +95,43 @@ returns : tie.Need-returns
 returns c = search needs
 
 returns-2 : tie.Need-returns-2
-returns-2 c = ?
+returns-2 c = at-arm numberOf (c .wfx .ensures) (c .before .before .r .given .1)
 
 returns-3 : tie.Need-returns-3
-returns-3 c = ?
+returns-3 c = at-arm numberOf (c .mcr .ensures) (c .before .before .r2 .given .1)
 
 returns-4 : tie.Need-returns-4
-returns-4 c = ?
+returns-4 c = at-arm numberOf (c .mcrr .ensures) (c .before .before .r3 .given .1)
 
 returns-5 : tie.Need-returns-5
-returns-5 c = ?
+returns-5 c = at-arm numberOf (c .ldc .ensures) (c .before .before .r4 .given .1)
 
 returns-6 : tie.Need-returns-6
-returns-6 c = ?
+returns-6 c = at-arm numberOf (c .simd .ensures) (c .before .before .r5 .given .1)
 
 returns-7 : tie.Need-returns-7
-returns-7 c = ?
+returns-7 c = at-arm numberOf (c .call .ensures) (c .before .before .r6 .given .1)
 
 returns-8 : tie.Need-returns-8
-returns-8 c = ?
+returns-8 c = at-arm numberOf (c .smc .ensures) (c .before .before .r7 .given .1)
 
 returns-9 : tie.Need-returns-9
-returns-9 c = ?
+returns-9 c = at-arm numberOf (c .instruction-abort .ensures) (c .before .before .r8 .given .1)
 
 returns-10 : tie.Need-returns-10
-returns-10 c = ?
+returns-10 c = at-arm numberOf (c .data-abort .ensures) (c .before .before .r9 .given .1)
 
 returns-11 : tie.Need-returns-11
 returns-11 c = search needs
 
 returns-12 : tie.Need-returns-12
-returns-12 c = ?
+returns-12 c = at-arm numberOf (c .step .ensures) (c .before .before .r10 .given .1)
 
 returns-13 : tie.Need-returns-13
-returns-13 c = ?
+returns-13 c = at-arm numberOf (c .watchpoint .ensures) (c .before .before .r11 .given .1)
 
 returns-14 : tie.Need-returns-14
-returns-14 c = ?
+returns-14 c = at-arm numberOf (c .serror .ensures) (c .before .before .r12 .given .1)
 
 returns-15 : tie.Need-returns-15
 returns-15 c = search needs
