@@ -30,7 +30,19 @@ unless-requires-5 : tie.Need-unless-requires-5
 unless-requires-5 c κs = search needs
 
 returns : tie.Need-returns
-returns c = rw (c .before .no-syndrome .ensures, c .before .before .unless4 .ensures, c .before .before .before .aarch32-access .ensures, c .before .before .before .before .unless3 .ensures, c .before .before .before .before .before .unless2 .ensures, c .before .before .before .before .before .before .extension-rule .ensures, c .before .before .before .before .before .before .before .unless .ensures, c .before .before .before .before .before .before .before .before .maintenance-rule .ensures) at (c .unless5 .ensures)
+returns c =
+    let third = c .before .before .before .before .before .before in
+    let second = third .before .before .before .before in
+    rw (
+      c .before .before .no-syndrome .ensures,
+      c .before .before .before .unless4 .ensures,
+      c .before .before .before .before .aarch32-access .ensures,
+      third .unless3 .ensures,
+      second .unless2 .ensures,
+      second .before .extension-rule .ensures,
+      second .before .before .unless .ensures,
+      second .before .before .before .maintenance-rule .ensures,
+    ) at (c .unless5 .ensures)
 
 pub access-spec : {M : Type 1} → statement M
 access-spec =
