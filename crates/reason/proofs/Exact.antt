@@ -1,5 +1,5 @@
--- A word of a known class, with IL as it must be, that breaks no rule is had by some edition: so a word that no edition has breaks a rule that
--- is named.
+-- A word of a known class, with IL as it must be, that breaks no rule is had by some edition: so a word that no edition has breaks a rule
+-- that is named.
 -- Assumes nothing.
 use mathlib.Core.Path.{_≡_, refl, sym, ap, subst, _∙_}
 use mathlib.Core.Bool.{Bool, true, false, not, cond, _&&_, _||_, true≢false, and-assoc}
@@ -176,6 +176,9 @@ some-edition (Record.System r) p = (0, refl, refl)
 
 -- ---- the class and IL of the record at a word's bits
 
+add : {A B : Type 0} → A → B → A × B
+add a b = (a, b)
+
 module _ (w : ℕ) where
   -- the record of a known class is of its own kind, has the class, and IL where the word has it
   abbrev Headed : ℕ → Type 0
@@ -185,7 +188,14 @@ module _ (w : ℕ) where
 
   headed : (c : ℕ) → isClass o c ≡ true → Headed c
   unfolding recordOf
-  headed = among-each aarch32Classes Headed ((refl, refl, λ h. h), ((refl, refl, λ h. h), ((refl, refl, λ h. h), ((refl, refl, λ h. h), ((refl, refl, λ h. h), ((refl, refl, λ h. h), ((refl, refl, λ h. h), ((refl, refl, λ h. h), ((refl, refl, λ h. h), ((refl, refl, λ h. h), ((refl, refl, λ h. h), ((refl, refl, λ h. h), ((refl, refl, λ h. h), ((refl, refl, λ h. h), ((refl, refl, λ h. h), ((refl, refl, λ h. h), ((refl, refl, λ h. h), ((refl, refl, λ h. h), ((refl, refl, λ h. h), ((refl, refl, λ h. h), ((refl, refl, λ h. h), ((refl, refl, λ h. h), tt))))))))))))))))))))))
+  headed =
+      among-each aarch32Classes Headed
+      (add (refl, refl, λ h. h) (add (refl, refl, λ h. h) (add (refl, refl, λ h. h) (add (refl, refl, λ h. h)
+      (add (refl, refl, λ h. h) (add (refl, refl, λ h. h) (add (refl, refl, λ h. h) (add (refl, refl, λ h. h)
+      (add (refl, refl, λ h. h) (add (refl, refl, λ h. h) (add (refl, refl, λ h. h) (add (refl, refl, λ h. h)
+      (add (refl, refl, λ h. h) (add (refl, refl, λ h. h) (add (refl, refl, λ h. h) (add (refl, refl, λ h. h)
+      (add (refl, refl, λ h. h) (add (refl, refl, λ h. h) (add (refl, refl, λ h. h) (add (refl, refl, λ h. h)
+      (add (refl, refl, λ h. h) (add (refl, refl, λ h. h) tt))))))))))))))))))))))
 
   -- A WORD THAT BREAKS NO RULE is had by some edition
   pub none-broken : isClass o (fieldOf w 31 26) ≡ true → ilRule o (fieldOf w 31 26) (bitOf w 24) (bitOf w 25) ≡ true → whyOf w ≡ 0
@@ -198,5 +208,6 @@ module _ (w : ℕ) where
       let h = headed (fieldOf w 31 26) class in
       let had = some-edition r rules in
       let known : recordClass o r ≡ true = both (h .0) (ap (isClass o) (h .1) ∙ class) in
-      let allowed : (fitting (fieldsOf r) && layoutRule o r) ≡ true = both (is-true (fitting (fieldsOf r)) (fits-at w)) (rules-lawful r rules) in
+      let allowed : (fitting (fieldsOf r) && layoutRule o r) ≡ true =
+      both (is-true (fitting (fieldsOf r)) (fits-at w)) (rules-lawful r rules) in
       (had .0, had .2, both (passed .1 .0) (both (both (had .2) (both (both known (h .2 il)) allowed)) (had .1)))

@@ -1,5 +1,5 @@
--- Why no edition has a word, of a trap from AArch32: the rules of the layout lines, of aborts and of fault codes (crate rule) as tests in their
--- order, each with the number of its words (crate names, `reasons`). 0 is none.
+-- Why no edition has a word, of a trap from AArch32: the rules of the layout lines, of aborts and of fault codes (crate rule) as tests in
+-- their order, each with the number of its words (crate names, `reasons`). 0 is none.
 use Prim.Native.Nat.{ℕ}
 use mathlib.Core.Bool.{Bool, not, _&&_, _||_}
 use mathlib.Core.List.{List, [], _∷_}
@@ -7,8 +7,8 @@ use lib.Dec.{eqb}
 use Rattle.bits.specs.Among.{among}
 use Rattle.bits.specs.Field.{fieldOf}
 use Rattle.bits.specs.Decide.{Test, needs, decide}
-use Rattle.iss.specs.Rule.{implies, between, conditionRule, directionRule, immediateRule, addressingRule, passedRule, mmuFault, externalRule}
-use Rattle.iss.specs.Rule.{walkRule, extensionRule, maintenanceRule}
+use Rattle.iss.specs.Rule.{implies, between, conditionRule, directionRule, immediateRule, addressingRule, passedRule, mmuFault}
+use Rattle.iss.specs.Rule.{externalRule, walkRule, extensionRule, maintenanceRule}
 use Rattle.layout.specs.Fields.{debugCode, recordWord}
 use Rattle.record.specs.Split.{recordAt}
 use Rattle.record.specs.declared.kinds.DataAbort.{DataAbort}
@@ -16,8 +16,8 @@ use Rattle.record.specs.declared.kinds.Record.{Record}
 use Rattle.rule.specs.Rule.{noSyndromeRule, aarch32Access, stepRule, errorRule}
 use Rattle.rule.specs.Code.{everywhere, withLpa2, withoutRas, dataOnlyCode}
 
--- some edition has the code of an instruction abort, or of a data abort; the code and SET go together in some edition, and so do ISV and the
--- code
+-- some edition has the code of an instruction abort, or of a data abort; the code and SET go together in some edition, and so do ISV and
+-- the code
 abbrev pub someCode : ℕ → Bool
 someCode code = everywhere code || withLpa2 code || withoutRas code || eqb code 0x1B || eqb code 0x31
 
