@@ -120,6 +120,10 @@ fn refused(catalogue: &Catalogue, word: u64, refusal: Refusal) -> String {
         2 => "refused 2: bits 63:32 are not zero\n".into(),
         3 => "refused 3: EC 31:26 is no class of the build\n".into(),
         4 => "refused 4: IL 25 is 0 where it must be 1\n".into(),
+        5 if form.editions == 16 => {
+            let rule = why(form, word as u32).expect("a rule that the word breaks");
+            format!("refused 5: no edition has it\nwhy: {rule}\n")
+        }
         5 => "refused 5: no edition has it\n".into(),
         _ => {
             let entry = catalogue.find(word as u32).expect("what other editions have");
@@ -131,6 +135,88 @@ fn refused(catalogue: &Catalogue, word: u64, refusal: Refusal) -> String {
             )
         }
     }
+}
+
+/// The first rule that a word of the long form breaks, in the order of the
+/// definition: the fixed code, bits of no field, and the rules of its class.
+fn why(form: &Form, word: u32) -> Option<&'static str> {
+    let class = (word >> 26) as u8;
+    let kind = form.kind_of_class(class).expect("a class of the form");
+    let value = |name: &str| kind.fields.iter().find(|f| f.name == name).map(|f| f.value_in(word));
+    let get = |name: &str| value(name).unwrap_or(0);
+    let is = |name: &str| get(name) == 1;
+    let named = kind.fields.iter().fold(0x3f << 26, |bits, field| bits | field.place());
+    let (code, set) = (get("code"), get("SET"));
+    let is_mmu_fault = matches!(code, 0x00..=0x0f | 0x29 | 0x2b);
+    let is_data = class == 0x24;
+    let is_abort = is_data || class == 0x20;
+    // ISS[23:14] of a data abort.
+    let syndrome = word >> 14 & 0x3ff;
+    let known_code = match code {
+        0x11 | 0x12 | 0x19 | 0x1a | 0x20 | 0x22..=0x28 | 0x2a | 0x2c..=0x2f => false,
+        0x21 | 0x34 | 0x35 => is_data,
+        other => other < 0x32,
+    };
+    let error = (get("DFSC"), get("AET"), is("EA"));
+    let rules = [
+        (kind.fixed != 0 && word % 64 != kind.fixed, "the fault code 5:0 is not 0x22, a debug exception"),
+        (
+            word & !(named | kind.fixed) != 0,
+            "a bit is set that belongs to no field of the class",
+        ),
+        (is("CV") && get("COND") == 15, "CV 24 is 1 and COND 23:20 is 0b1111"),
+        (
+            matches!(class, 0x08 | 0x0c) && !is("Direction"),
+            "Direction 0 is 0, and this class only reads",
+        ),
+        (
+            matches!(get("AM"), 5 | 7) || get("AM") > 3 && !is("Direction"),
+            "AM 3:1 is reserved, or is a literal form and Direction 0 is 0",
+        ),
+        (!is("IL") && get("imm16") > 255, "IL 25 is 0 and the immediate 15:0 is above 255"),
+        (
+            value("CCKNOWNPASS") == Some(0) && (is("CV") || get("COND") != 0),
+            "CCKNOWNPASS 19 is 0, and CV 24 or COND 23:20 is not",
+        ),
+        (is_abort && is("FnV") && code != 0x10, "FnV 10 is 1 and the fault code 5:0 is not 0x10"),
+        (
+            is_abort && is("EA") && code / 16 != 1,
+            "EA 9 is 1 and the fault code 5:0 is not among 0x10 to 0x1f",
+        ),
+        (is("S1PTW") && !is_mmu_fault, "S1PTW 7 is 1 and the fault code 5:0 is no MMU fault"),
+        (is_data && !is("ISV") && syndrome != 0, "ISV 24 is 0 and bits 23:14 are not"),
+        (
+            is_data && is("ISV")
+                && (is("SF") || get("SAS") == 3 || matches!(get("SRT"), 15 | 31)),
+            "ISV 24 is 1, and the access is none of an AArch32 guest: SF 15 is 1, SAS 23:22 is 3, or SRT names no register of its own",
+        ),
+        (
+            is_data && is("ISV") && (is("CM") || is("S1PTW")),
+            "ISV 24 is 1, and CM 8 or S1PTW 7 is 1",
+        ),
+        (
+            is("SSE") && (get("SAS") > 1 || is("WnR")),
+            "SSE 21 is 1, and SAS 23:22 is above 1 or WnR 6 is 1",
+        ),
+        (is("CM") && !is("WnR"), "CM 8 is 1 and WnR 6 is 0"),
+        (is("EX") && !is("ISV"), "EX 6 is 1 and ISV 24 is 0"),
+        (
+            class == 0x2f
+                && error != (0, 0, false)
+                && !(error.0 == 0x11 && matches!(error.1, 0..=3 | 6)),
+            "AET 12:10, EA 9 and DFSC 5:0 don't go together",
+        ),
+        (is_abort && !known_code, "no edition has the fault code 5:0"),
+        (
+            is_abort && set != 0 && !(code == 0x10 && set > 1),
+            "SET 12:11 is neither 0 nor, with the fault code 0x10, 2 or 3",
+        ),
+        (
+            is_data && is("ISV") && !is_mmu_fault && !matches!(code, 0x13..=0x17),
+            "ISV 24 is 1 and the fault code 5:0 doesn't go with it",
+        ),
+    ];
+    rules.into_iter().find(|(is_broken, _)| *is_broken).map(|(_, rule)| rule)
 }
 
 fn editions(form: &Form, mask: EditionMask) -> String {
@@ -453,6 +539,32 @@ pub fn questions() -> String {
         0xe200_0103,
         0xea00_0022,
         0xffff_ffff,
+        0x0600_0002,
+        0x23e7_c000,
+        0x33e1_0800,
+        0x1be0_000b,
+        0x1be0_0008,
+        0x4400_0100,
+        0x4e10_0000,
+        0x8200_0405,
+        0x8200_0205,
+        0x8200_0090,
+        0x8200_0810,
+        0x9200_8005,
+        0x9383_8045,
+        0x93c3_0005,
+        0x938f_0005,
+        0x9383_0145,
+        0x93a3_0005,
+        0x9363_0047,
+        0x9200_0105,
+        0x9200_0020,
+        0x9200_1005,
+        0x9383_0010,
+        0xbe00_1011,
+        0xbe00_0200,
+        0xca00_0042,
+        0xd200_0121,
     ];
     let mut text = String::new();
     for (at, word) in words.into_iter().enumerate() {

@@ -37,6 +37,16 @@ impl Field {
         }
     }
 
+    /// The field's bits of a word, where they stand.
+    pub fn place(&self) -> u32 {
+        (self.values() - 1) << self.low
+    }
+
+    /// What stands at the field's bits of a word.
+    pub fn value_in(&self, word: u32) -> u32 {
+        (word & self.place()) >> self.low
+    }
+
     /// How many values fit.
     pub fn values(&self) -> u32 {
         1 << self.width()

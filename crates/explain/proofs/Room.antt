@@ -16,11 +16,16 @@ use Rattle.bits.specs.Field.{fieldOf}
 use Rattle.edition.specs.Feature.{lpa}
 use Rattle.edition.specs.Judge.{refusalNumber}
 use Rattle.edition.specs.declared.Refusal.{Refusal}
-use Rattle.explain_text.specs.Word.{wordSaid}
+use Rattle.explain_text.specs.Word.{whyText}
 use Rattle.explain_text.specs.Trap.{virtualText, intermediateText, addressesText, hpfarText, trapSaid}
 use Rattle.explain_text.specs.Inner as Long
 use Rattle.explain_text.proofs.Said.{read-said, answer-said}
+use Rattle.explain_text.proofs.Five.{reasons-at}
 use Rattle.field_text.proofs.Room.{shape-length}
+use Rattle.names.specs.Name.{meaningOf}
+use Rattle.names.specs.Value.{reasons}
+use Rattle.names.proofs.Room.{meaning-length}
+use Rattle.reason.specs.Reason.{whyOf}
 use Rattle.question.specs.Feed.{started, fed, finished}
 use Rattle.question.specs.declared.Question.{Question}
 use Rattle.question.specs.declared.State.{State}
@@ -63,10 +68,21 @@ either-length : (t : Bool) (a : List ℕ) {top : ℕ} → length a ≤ top → l
 either-length true a h = h
 either-length false a h = omega arith
 
+why-length : (w : ℕ) → length (whyText w) ≤ 140
+why-length w =
+    let r : length (meaningOf reasons (whyOf w)) ≤ 128 = rw reasons-at at (meaning-length 31 (whyOf w)) in
+    simp length-append (omega arith)
+
+choice-length : (t u : Bool) (a b : List ℕ) {top : ℕ} → length a ≤ top → length b ≤ top → length (cond t a (cond u b [])) ≤ top
+choice-length true u a b h k = h
+choice-length false true a b h k = k
+choice-length false false a b h k = omega arith
+
 refused-length : (w : ℕ) (refusal : Refusal) → length (Long.refusedLines w refusal) ≤ 3632
 refused-length w refusal =
     joined (refusalText false refusal) (Long.othersLines w refusal) 512 3120 (refusal-length false refusal)
-    (either-length (eqb (refusalNumber refusal) 6) (LongWord.wordText w) (word-length w)) (omega arith)
+    (choice-length (eqb (refusalNumber refusal) 6) (eqb (refusalNumber refusal) 5) (LongWord.wordText w) (whyText w) (word-length w)
+    (omega (arith, why-length w))) (omega arith)
 
 taken-length : (w : ℕ) → length (ascii "taken\n" ++ LongWord.wordText w) ≤ 3126
 taken-length w = joined (ascii "taken\n") (LongWord.wordText w) 6 3120 (omega arith) (word-length w) (omega arith)

@@ -1,3 +1,4 @@
 pub mod Said
 pub mod Features
 pub mod Codes
+pub mod Five

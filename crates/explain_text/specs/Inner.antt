@@ -11,10 +11,12 @@ use Rattle.syndrome.specs.declared.answer.Read.{Read}
 use Rattle.text.specs.Ascii.{ascii}
 use Rattle.trap.specs.declared.Answer.{Answer}
 use Rattle.trap.specs.declared.TrapRefusal.{TrapRefusal}
+use Rattle.explain_text.specs.Word.{whyText}
 use Rattle.explain_text.specs.Trap.{addressesText, hpfarText}
 
 abbrev pub othersLines : ℕ → Refusal → List ℕ
-othersLines w refusal = cond (eqb (refusalNumber refusal) 6) (wordText w) []
+othersLines w refusal =
+    cond (eqb (refusalNumber refusal) 6) (wordText w) (cond (eqb (refusalNumber refusal) 5) (whyText w) [])
 
 abbrev pub refusedLines : ℕ → Refusal → List ℕ
 refusedLines w refusal = refusalText false refusal ++ othersLines w refusal
