@@ -19,7 +19,7 @@ use Rattle.record.specs.Sort.{sortOf}
 use Rattle.record.proofs.Sorts.{data-abort-sort}
 use Rattle.rule.specs.Has.{has}
 use Rattle.step.specs.Over.{had}
-use Rattle.rule.specs.Rule.{noSyndromeRule, validSyndromeRule, syndromeRule, extensionFrom, dataRule}
+use Rattle.layout_rule.specs.Rule.{noSyndromeRule, validSyndromeRule, syndromeRule, extensionFrom, dataRule}
 use Rattle.rule.proofs.Having.{has-fits, has-layout}
 use Rattle.step.proofs.Having.{had-some}
 use Rattle.device.specs.declared.access.Described.{Described}

@@ -8,7 +8,7 @@ use lib.Dec.{T, eqb}
 use Rattle.edition.specs.Mask.{maskBelow}
 use Rattle.names.specs.Name.{meaningOf}
 use Rattle.names.specs.Code.{faultCodes}
-use Rattle.rule.specs.Code.{dataCode}
+use Rattle.fault_code.specs.Code.{dataCode}
 use Rattle.explain_text.proofs.Features.{allBelow, below}
 
 abbrev some : List ℕ → Bool

@@ -23,9 +23,10 @@ use Rattle.record.specs.declared.kinds.Esr.{Esr}
 use Rattle.record.specs.declared.kinds.Record.{Record}
 use Rattle.record.specs.declared.kinds.Sort.{Sort}
 use Rattle.refusal_text.specs.Feature.{fits, askedBy}
-use Rattle.rule.specs.Code.{instructionCode, dataCode, setRule, sortRule, editionRule}
+use Rattle.fault_code.specs.Code.{instructionCode, dataCode, setRule}
+use Rattle.rule.specs.Has.{sortRule, editionRule}
 use Rattle.rule.specs.Has.{lawful, has}
-use Rattle.rule.proofs.Masks.{no-code, no-instruction-code}
+use Rattle.fault_code.proofs.Masks.{no-code, no-instruction-code}
 use Rattle.syndrome.specs.Reading.{hasWord, readOf}
 use Rattle.syndrome.specs.declared.answer.Read.{Read}
 use Rattle.syndrome.proofs.Refusals.{read-six-exactly}

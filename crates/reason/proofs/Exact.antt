@@ -22,10 +22,11 @@ use Rattle.record.specs.declared.kinds.DataAbort.{DataAbort}
 use Rattle.record.specs.declared.kinds.Record.{Record}
 use Rattle.record.specs.declared.kinds.Sort.{Sort}
 use Rattle.record.specs.declared.origin.Origin.{Origin}
-use Rattle.rule.specs.Code.{dataOnlyCode, instructionCode, setRule, isvRule, sortRule, editionRule}
+use Rattle.fault_code.specs.Code.{dataOnlyCode, instructionCode, setRule, isvRule}
+use Rattle.rule.specs.Has.{sortRule, editionRule}
 use Rattle.rule.specs.Has.{recordClass, recordIl, lawful, has}
 use Rattle.rule.specs.Il.{ilRule}
-use Rattle.rule.specs.Rule.{noSyndromeRule, aarch32Access, dataRule, errorType, errorRule, layoutRule}
+use Rattle.layout_rule.specs.Rule.{noSyndromeRule, aarch32Access, dataRule, errorType, errorRule, layoutRule}
 use Rattle.reason.specs.Reason.{someCode, someSet, someSyndrome, ruleTests, wordTests, whyOf}
 use Rattle.reason.proofs.Fits.{fits-at}
 

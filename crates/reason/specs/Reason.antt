@@ -13,8 +13,8 @@ use Rattle.layout.specs.Fields.{debugCode, recordWord}
 use Rattle.record.specs.Split.{recordAt}
 use Rattle.record.specs.declared.kinds.DataAbort.{DataAbort}
 use Rattle.record.specs.declared.kinds.Record.{Record}
-use Rattle.rule.specs.Rule.{noSyndromeRule, aarch32Access, stepRule, errorRule}
-use Rattle.rule.specs.Code.{everywhere, withLpa2, withoutRas, dataOnlyCode}
+use Rattle.layout_rule.specs.Rule.{noSyndromeRule, aarch32Access, stepRule, errorRule}
+use Rattle.fault_code.specs.Code.{everywhere, withLpa2, withoutRas, dataOnlyCode}
 
 -- some edition has the code of an instruction abort, or of a data abort; the code and SET go together in some edition, and so do ISV and
 -- the code

@@ -13,9 +13,8 @@ use Rattle.record.specs.Class.{isClass, headOf}
 use Rattle.layout.specs.Fields.{fieldsOf}
 use Rattle.record.specs.declared.origin.Origin.{Origin}
 use Rattle.record.specs.declared.kinds.Record.{Record}
-use Rattle.rule.specs.Rule.{layoutRule}
-use Rattle.rule.specs.Code.{editionRule}
-use Rattle.rule.specs.Has.{recordClass, recordIl, lawful, has, editionsOf}
+use Rattle.layout_rule.specs.Rule.{layoutRule}
+use Rattle.rule.specs.Has.{editionRule, recordClass, recordIl, lawful, has, editionsOf}
 
 module _ (o : Origin) (e : ℕ) (r : Record) (h : has o e r ≡ true) where
   both-parts : (isEdition e && lawful o r) ≡ true

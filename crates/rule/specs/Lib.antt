@@ -1,4 +1,2 @@
 pub mod Il
-pub mod Rule
-pub mod Code
 pub mod Has

@@ -1,7 +1,6 @@
 // Which editions have a record of a syndrome word.
-mod code;
+mod had;
 mod il;
-pub mod rules;
 
-pub use code::editions;
+pub use had::editions;
 pub use il::il_rule;

@@ -8,7 +8,6 @@ ghost use Rattle.short_layout.specs.Fields.{fieldsOf};
 ghost use Rattle.short_rule.specs.Rule.{coprocRule, asynchronous, noSyndromeRule, validSyndromeRule, syndromeRule, asynchronousRule};
 ghost use Rattle.short_rule.specs.Rule.{dataRule, layoutRule};
 use record::Origin;
-use rule::rules;
 use short_record::DataAbort;
 use short_record::InstructionAbort;
 use short_record::Ldc;
@@ -130,14 +129,14 @@ pub fn layout_rule(r: Record) -> bool
     ensures { λ yes. ⌜ yes ≡ (fitting (fieldsOf r) && layoutRule r) ⌝ }
 {
     match r {
-        Record::Plain(x) => rules::plain(x),
-        Record::Wfx(x) => rules::wfx(Origin::AArch32, x),
+        Record::Plain(x) => layout_rule::plain(x),
+        Record::Wfx(x) => layout_rule::wfx(Origin::AArch32, x),
         Record::Mcr(x) => mcr(x),
         Record::Mcrr(x) => mcrr(x),
         Record::Ldc(x) => ldc(x),
         Record::Simd(x) => simd(x),
-        Record::Call(x) => rules::call(x),
-        Record::Smc(x) => rules::smc(x),
+        Record::Call(x) => layout_rule::call(x),
+        Record::Smc(x) => layout_rule::smc(x),
         Record::InstructionAbort(x) => instruction_abort(x),
         Record::DataAbort(x) => data_abort(x),
     }

@@ -14,7 +14,7 @@ use Rattle.record.specs.declared.origin.Origin.{Origin}
 use Rattle.record.specs.declared.kinds.DataAbort.{DataAbort}
 use Rattle.record.specs.declared.kinds.Record.{Record}
 use Rattle.rule.specs.Il.{ilRule}
-use Rattle.rule.specs.Rule.{conditionFrom, validSyndromeRule, extensionFrom, dataRule}
+use Rattle.layout_rule.specs.Rule.{conditionFrom, validSyndromeRule, extensionFrom, dataRule}
 use Rattle.rule.specs.Has.{recordClass}
 use Rattle.address.specs.Page.{farRule}
 use Rattle.address.specs.declared.Far.{Far}

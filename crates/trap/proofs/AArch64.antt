@@ -13,7 +13,7 @@ use Rattle.record.specs.declared.kinds.Addresses.{Addresses}
 use Rattle.record.specs.declared.kinds.DataAbort.{DataAbort}
 use Rattle.record.specs.declared.kinds.Esr.{Esr}
 use Rattle.rule.specs.Il.{ilRule}
-use Rattle.rule.specs.Rule.{conditionFrom, validSyndromeRule, extensionFrom}
+use Rattle.layout_rule.specs.Rule.{conditionFrom, validSyndromeRule, extensionFrom}
 use Rattle.address.specs.Known.{farCounts}
 use Rattle.address.specs.declared.Far.{Far}
 use Rattle.address.specs.declared.Hpfar.{Hpfar}

@@ -12,7 +12,7 @@ use Rattle.record.specs.Class.{plainClasses, mcrClasses, mcrrClasses, debugClas
 use Rattle.record.specs.declared.kinds.DataAbort.{DataAbort}
 use Rattle.record.specs.declared.kinds.Record.{Record}
 use Rattle.rule.specs.Il.{ilAlways}
-use Rattle.rule.specs.Rule.{noSyndromeRule}
+use Rattle.layout_rule.specs.Rule.{noSyndromeRule}
 use Rattle.address.specs.declared.Far.{Far}
 
 -- the sixteen classes of 01 and the six of C-20
