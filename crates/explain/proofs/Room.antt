@@ -47,7 +47,7 @@ use Rattle.text.proofs.Numerals.{hex-length}
 use Rattle.trap.specs.Answer.{answerOf}
 use Rattle.trap.specs.declared.Answer.{Answer}
 use Rattle.trap.specs.declared.Trap.{Trap}
-use Rattle.trap.specs.declared.TrapRefusal.{TrapRefusal}
+use Rattle.trap_refusal.specs.declared.TrapRefusal.{TrapRefusal}
 use Rattle.explain.specs.Answer.{answerText}
 use Rattle.explain.specs.Lines.{answersIn}
 

@@ -29,7 +29,7 @@ use Rattle.text.specs.Ascii.{ascii}
 use Rattle.trap.specs.Answer.{answerOf}
 use Rattle.trap.specs.Trap.{recordIn}
 use Rattle.trap.specs.declared.Answer.{Answer}
-use Rattle.trap.specs.declared.TrapRefusal.{TrapRefusal}
+use Rattle.trap_refusal.specs.declared.TrapRefusal.{TrapRefusal}
 use Rattle.trap.proofs.Shown.{shown-exactly, shown-holds, refused-alike}
 use Rattle.explain_text.specs.Word.{refusedText, readText}
 use Rattle.explain_text.specs.Trap.{addressesText, answerText}

@@ -10,7 +10,7 @@ use Rattle.refusal_text.specs.Refusal.{refusalText}
 use Rattle.syndrome.specs.declared.answer.Read.{Read}
 use Rattle.text.specs.Ascii.{ascii}
 use Rattle.trap.specs.declared.Answer.{Answer}
-use Rattle.trap.specs.declared.TrapRefusal.{TrapRefusal}
+use Rattle.trap_refusal.specs.declared.TrapRefusal.{TrapRefusal}
 use Rattle.explain_text.specs.Word.{whyText}
 use Rattle.explain_text.specs.Trap.{addressesText, hpfarText}
 

@@ -17,7 +17,7 @@ use Rattle.trap.specs.Answer.{answerOf}
 use Rattle.trap.specs.Trap.{recordIn}
 use Rattle.trap.specs.declared.Answer.{Answer}
 use Rattle.trap.specs.declared.Trap.{Trap}
-use Rattle.trap.specs.declared.TrapRefusal.{TrapRefusal}
+use Rattle.trap_refusal.specs.declared.TrapRefusal.{TrapRefusal}
 use Rattle.explain_text.specs.Word.{refusedText}
 
 abbrev pub virtualText : VirtualAddress → List ℕ

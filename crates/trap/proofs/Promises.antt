@@ -26,11 +26,12 @@ use Rattle.syndrome.specs.Answer.{asRead}
 use Rattle.syndrome.specs.Reading.{hasWord, readOf, Reading}
 use Rattle.syndrome.specs.declared.answer.Read.{Read}
 use Rattle.syndrome.proofs.Promises.{reads}
-use Rattle.trap.specs.Numbers.{trapNumber, numberAnswer, maskAnswer, countAnswer, numberBoth, maskBoth, countBoth}
+use Rattle.trap_refusal.specs.Numbers.{trapNumber}
+use Rattle.trap.specs.Numbers.{numberAnswer, maskAnswer, countAnswer, numberBoth, maskBoth, countBoth}
 use Rattle.trap.specs.Trap.{trapOf}
 use Rattle.trap.specs.Answer.{hpfarRight, farRight, answerRecord, answerRead, answerOf, trapList, TrapReading}
 use Rattle.trap.specs.Both.{bothFrom, bothOf, BothReading}
-use Rattle.trap.specs.declared.TrapRefusal.{TrapRefusal}
+use Rattle.trap_refusal.specs.declared.TrapRefusal.{TrapRefusal}
 use Rattle.trap.specs.declared.Answer.{Answer}
 use Rattle.trap.specs.declared.Both.{Both}
 

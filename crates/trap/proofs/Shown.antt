@@ -37,7 +37,7 @@ use Rattle.trap.specs.Numbers.{numberAnswer}
 use Rattle.trap.specs.Trap.{trapFrom, trapOf, recordIn, virtualIn, intermediateIn}
 use Rattle.trap.specs.Answer.{hpfarRight, farRight, answerRecord, answerRead, answerOf, trapList}
 use Rattle.trap.specs.declared.Trap.{Trap}
-use Rattle.trap.specs.declared.TrapRefusal.{TrapRefusal}
+use Rattle.trap_refusal.specs.declared.TrapRefusal.{TrapRefusal}
 use Rattle.trap.specs.declared.Answer.{Answer}
 use Rattle.trap.proofs.Promises.{shows}
 

@@ -22,7 +22,7 @@ use Rattle.syndrome.specs.Reading.{hasWord, readOf, readList}
 use Rattle.syndrome.specs.declared.answer.Read.{Read}
 use Rattle.trap.specs.Numbers.{answerNumbers}
 use Rattle.trap.specs.Trap.{trapOf}
-use Rattle.trap.specs.declared.TrapRefusal.{TrapRefusal}
+use Rattle.trap_refusal.specs.declared.TrapRefusal.{TrapRefusal}
 use Rattle.trap.specs.declared.Answer.{Answer}
 
 -- 7: no bit outside HPFAR's field is set, where HPFAR counts

@@ -1,26 +1,10 @@
 -- The paper's number, mask and number of ones of each answer (01, 'Numbers a call may answer'): 0, 0, 0 where a trap is shown, else the
 -- refusal's.
 use Prim.Native.Nat.{ℕ}
-use Rattle.edition.specs.Judge.{refusalNumber, refusalMask, refusalCount}
 use Rattle.form.specs.Promise.{Numbers}
-use Rattle.trap.specs.declared.TrapRefusal.{TrapRefusal}
+use Rattle.trap_refusal.specs.Numbers.{trapNumber, trapMask, trapCount}
 use Rattle.trap.specs.declared.Answer.{Answer}
 use Rattle.trap.specs.declared.Both.{Both}
-
-abbrev pub trapNumber : TrapRefusal → ℕ
-trapNumber (TrapRefusal.Syndrome refusal) = refusalNumber refusal
-trapNumber TrapRefusal.Hpfar = 7
-trapNumber TrapRefusal.Far = 8
-
-abbrev pub trapMask : TrapRefusal → ℕ
-trapMask (TrapRefusal.Syndrome refusal) = refusalMask refusal
-trapMask TrapRefusal.Hpfar = 0
-trapMask TrapRefusal.Far = 0
-
-abbrev pub trapCount : TrapRefusal → ℕ
-trapCount (TrapRefusal.Syndrome refusal) = refusalCount refusal
-trapCount TrapRefusal.Hpfar = 0
-trapCount TrapRefusal.Far = 0
 
 abbrev pub numberAnswer : Answer → ℕ
 numberAnswer (Answer.Shown trap) = 0

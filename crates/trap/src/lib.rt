@@ -1,6 +1,5 @@
 // The whole trap: a syndrome with exactly the addresses that are known, from the origin that the caller says.
 ghost use mathlib.Core.Path.{_≡_};
-ghost use Rattle.trap.specs.Numbers.{trapNumber, trapMask, trapCount};
 ghost use Rattle.trap.specs.Trap.{trapFrom};
 ghost use Rattle.trap.specs.Answer.{answerRecord, TrapReading};
 ghost use Rattle.trap.specs.Both.{BothReading};
@@ -8,12 +7,16 @@ use address::Far;
 use address::Hpfar;
 use address::IntermediateAddress;
 use address::VirtualAddress;
-use edition::Refusal;
 use record::Addresses;
 use record::Esr;
 use record::Origin;
 use record::Record;
 use syndrome::Read;
+
+pub use trap_refusal::TrapRefusal;
+pub use trap_refusal::count;
+pub use trap_refusal::mask;
+pub use trap_refusal::number;
 
 // An instruction or data abort.
 pub struct Abort {
@@ -35,52 +38,9 @@ pub enum Trap {
     Plain(Record),
 }
 
-// Why a trap is refused: as its syndrome is, or by an address register.
-pub enum TrapRefusal {
-    // 1 to 6.
-    Syndrome(Refusal),
-    // 7: HPFAR counts, and a bit outside its field is set.
-    Hpfar,
-    // 8: FAR counts, and its bits 63:32 are not zero. From AArch32 alone.
-    Far,
-}
-
 pub enum Answer {
     Shown(Trap),
     Refused(TrapRefusal),
-}
-
-// The refusal's number in the definition.
-pub fn number(refusal: TrapRefusal) -> u32
-    ensures { λ n. ⌜ n ≡ trapNumber refusal ⌝ }
-{
-    match refusal {
-        TrapRefusal::Syndrome(r) => edition::number(r),
-        TrapRefusal::Hpfar => 7,
-        TrapRefusal::Far => 8,
-    }
-}
-
-// The mask that a refusal carries.
-pub fn mask(refusal: TrapRefusal) -> u32
-    ensures { λ m. ⌜ m ≡ trapMask refusal ⌝ }
-{
-    match refusal {
-        TrapRefusal::Syndrome(r) => edition::mask(r),
-        TrapRefusal::Hpfar => 0,
-        TrapRefusal::Far => 0,
-    }
-}
-
-// The number of editions that a refusal carries.
-pub fn count(refusal: TrapRefusal) -> u32
-    ensures { λ n. ⌜ n ≡ trapCount refusal ⌝ }
-{
-    match refusal {
-        TrapRefusal::Syndrome(r) => edition::count(r),
-        TrapRefusal::Hpfar => 0,
-        TrapRefusal::Far => 0,
-    }
 }
 
 // The trap of a record, with the addresses that it makes known.

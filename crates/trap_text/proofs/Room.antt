@@ -16,11 +16,11 @@ use Rattle.log_text.specs.Lines.{decimalField, hexField, wordsText}
 use Rattle.record.specs.declared.kinds.Esr.{Esr}
 use Rattle.record.specs.declared.origin.Origin.{Origin}
 use Rattle.trap.specs.Answer.{answerOf}
-use Rattle.trap.specs.Numbers.{trapNumber, trapMask, trapCount}
+use Rattle.trap_refusal.specs.Numbers.{trapNumber, trapMask, trapCount}
 use Rattle.trap.specs.Trap.{virtualIn, intermediateIn}
 use Rattle.trap.specs.declared.Answer.{Answer}
 use Rattle.trap.specs.declared.Trap.{Trap}
-use Rattle.trap.specs.declared.TrapRefusal.{TrapRefusal}
+use Rattle.trap_refusal.specs.declared.TrapRefusal.{TrapRefusal}
 use Rattle.trap_text.specs.Shown.{virtualText, intermediateText, takenText, refusalText, answerText, shownText, linesBelow, trapText}
 
 virtual-length : (a : VirtualAddress) → length (virtualText a) ≤ 32

@@ -8,7 +8,7 @@ use Rattle.edition.specs.Feature.{editions}
 use Rattle.record.specs.declared.origin.Origin.{Origin}
 use Rattle.record.specs.declared.kinds.Esr.{Esr}
 use Rattle.text.specs.Ascii.{ascii}
-use Rattle.trap.specs.Numbers.{trapNumber, trapMask, trapCount}
+use Rattle.trap_refusal.specs.Numbers.{trapNumber, trapMask, trapCount}
 use Rattle.trap.specs.Answer.{answerOf}
 use Rattle.trap.specs.Trap.{virtualIn, intermediateIn}
 use Rattle.address.specs.declared.Far.{Far}
@@ -16,7 +16,7 @@ use Rattle.address.specs.declared.Hpfar.{Hpfar}
 use Rattle.address.specs.declared.VirtualAddress.{VirtualAddress}
 use Rattle.address.specs.declared.IntermediateAddress.{IntermediateAddress}
 use Rattle.trap.specs.declared.Trap.{Trap}
-use Rattle.trap.specs.declared.TrapRefusal.{TrapRefusal}
+use Rattle.trap_refusal.specs.declared.TrapRefusal.{TrapRefusal}
 use Rattle.trap.specs.declared.Answer.{Answer}
 use Rattle.log_text.specs.Lines.{decimalField, hexField, wordsText}
 

@@ -17,7 +17,7 @@ use Rattle.address.specs.declared.Far.{Far}
 use Rattle.address.specs.declared.Hpfar.{Hpfar}
 use Rattle.trap.specs.Trap.{trapFrom, trapOf}
 use Rattle.trap.specs.Answer.{hpfarRight, farRight, answerRecord}
-use Rattle.trap.specs.declared.TrapRefusal.{TrapRefusal}
+use Rattle.trap_refusal.specs.declared.TrapRefusal.{TrapRefusal}
 use Rattle.trap.specs.declared.Answer.{Answer}
 use Rattle.trap.proofs.answer_record.Statement.{statement}
 use Rattle.trap.proofs.answer_record.Tie as tie

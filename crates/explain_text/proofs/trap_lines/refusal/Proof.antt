@@ -1,7 +1,7 @@
 use borrow.Author.Needs.{needs}
 use mathlib.Core.Path.{_≡_, ap}
 use Prim.Native.Nat.{ℕ}
-use Rattle.trap.specs.declared.TrapRefusal.{TrapRefusal}
+use Rattle.trap_refusal.specs.declared.TrapRefusal.{TrapRefusal}
 use Rattle.explain_text.specs.Inner.{refusalLines}
 use Rattle.explain_text.proofs.trap_lines.refusal.Statement.{statement}
 use Rattle.explain_text.proofs.trap_lines.refusal.Tie as tie
