@@ -10,8 +10,8 @@ use lib.Dec.{leb, eqb, lit≤}
 use lib.ListN.{length}
 use Rattle.bits.specs.Decide.{Test, needs, decide, FirstFails, FailsWith}
 use Rattle.bits.proofs.Deciding.{OneOf, decide-relabel, decided-exactly, decided-with-exactly, answer-is}
-use Rattle.log.specs.Section.{wholeAfter}
-use Rattle.log.specs.Log.{goneThrough}
+use Rattle.log_section.specs.Section.{wholeAfter}
+use Rattle.log_section.specs.Log.{goneThrough}
 use Rattle.log.specs.Answer.{numberOf, sectionIn, goneIn, testsOf, readTests, readNumbers, readSections, readOf, Reading}
 use Rattle.log.specs.declared.answer.Read.{Read}
 use Rattle.log.specs.declared.answer.Read.the-variants.{Accepted, TooLong, CutShort, LeftOver, Unequal, WideDomain}

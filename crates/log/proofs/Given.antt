@@ -10,17 +10,17 @@ use native.Mathlib.Omega.{arith}
 use borrow.Author.Tests.{lt-ltb, le-leb}
 use lib.ListN.{length, drop, getD, length-drop}
 use lib.Seq.{drop-drop}
-use Rattle.log.specs.Section.{injectionSize, sizes, countOf, endOf, sectionOf, restAfter, countAfter, wholeAfter}
-use Rattle.log.specs.Log.{Address, nowhere, byteIn, wordIn, pairIn, injectionIn, injectionByte, domainOf, entriesOf, bodyAfter}
+use Rattle.log_section.specs.Section.{injectionSize, sizes, countOf, endOf, sectionOf, restAfter, countAfter, wholeAfter}
+use Rattle.log_section.specs.Log.{Address, nowhere, byteIn, wordIn, pairIn, injectionIn, injectionByte, domainOf, entriesOf, bodyAfter}
 use Rattle.log.specs.Answer.{readOf}
-use Rattle.log.specs.Look.{sectionAt, movedPast, skipFrom, entryIn, entryOf, lookAt, startAfter, entryGiven}
+use Rattle.log_section.specs.Look.{sectionAt, movedPast, skipFrom, entryIn, entryOf, lookAt, startAfter, entryGiven}
 use Rattle.log.specs.declared.answer.Read.the-variants.{Accepted}
-use Rattle.log.specs.declared.section.Section.{Section}
-use Rattle.log.specs.declared.entry.Place.{Place}
-use Rattle.log.specs.declared.entry.Entry.{Entry}
-use Rattle.log.proofs.Codec.{entry-at}
-use Rattle.log.proofs.Found.{Whole, is-found}
-use Rattle.log.proofs.Places.{place-in, look-found, look-past}
+use Rattle.log_section.specs.declared.section.Section.{Section}
+use Rattle.log_section.specs.declared.entry.Place.{Place}
+use Rattle.log_section.specs.declared.entry.Entry.{Entry}
+use Rattle.log_section.proofs.Codec.{entry-at}
+use Rattle.log_section.proofs.Found.{Whole, is-found}
+use Rattle.log_section.proofs.Places.{place-in, look-found, look-past}
 use Rattle.log.proofs.RoundTrip.{Accepts, accepts}
 
 -- the rest after n sections starts where section n + 1 does

@@ -1,9 +1,4 @@
-pub mod Numbers
-pub mod Found
-pub mod Places
-pub mod Codec
 pub mod RoundTrip
 pub mod Given
 pub mod Answers
-pub mod Domains
 pub mod Older

@@ -8,14 +8,14 @@ use native.Mathlib.Omega.{arith}
 use borrow.Author.Tests.{le-leb}
 use lib.Dec.{lit≤}
 use lib.ListN.{length}
-use Rattle.log.specs.Section.{injectionSize, endOf, wholeAfter, restAfter}
-use Rattle.log.specs.Log.{Entries, byte, sectionBytes, logOf, entriesOf}
+use Rattle.log_section.specs.Section.{injectionSize, endOf, wholeAfter, restAfter}
+use Rattle.log_section.specs.Log.{Entries, byte, sectionBytes, logOf, entriesOf}
 use Rattle.log.specs.Answer.{readOf}
 use Rattle.log.specs.Older.{olderLog}
 use Rattle.log.specs.declared.answer.Read.the-variants.{Accepted, CutShort}
 use Rattle.log.proofs.Answers.{cut-short-exactly}
-use Rattle.log.proofs.Codec.{Stands}
-use Rattle.log.proofs.Found.{not-found, entries-cut}
+use Rattle.log_section.proofs.Codec.{Stands}
+use Rattle.log_section.proofs.Found.{not-found, entries-cut}
 use Rattle.log.proofs.RoundTrip.{none, numbers-length, numbers-stand, Writable, threeThen, three-length, editions-stand}
 use Rattle.log.proofs.RoundTrip.{syndromes-stand, addresses-stand, log-accepted, log-entries}
 

@@ -10,17 +10,17 @@ use borrow.Author.Tests.{le-leb, leb-true, eq-eqb, eqb-true}
 use lib.Dec.{lit<}
 use lib.ListN.{length, take, drop, getD, length-append, length-drop}
 use lib.Seq.{take-at, drop-at, take-add, take-append-le, length-take-le}
-use Rattle.log.specs.Number.{little, number, Bytes}
+use Rattle.log_section.specs.Number.{little, number, Bytes}
 use Rattle.bits.proofs.Deciding.{all-pass}
-use Rattle.log.specs.Section.{injectionSize, sizes, countOf, endOf, wholeOf, afterOf, restAfter, countAfter}
-use Rattle.log.specs.Log.{Address, Entries, byte, word, pair, injection, byteIn, wordIn, pairIn, domainsFit, sectionBytes, entriesIn}
-use Rattle.log.specs.Log.{logOf, bodyAfter, injectionsOf, entriesOf, goneThrough}
+use Rattle.log_section.specs.Section.{injectionSize, sizes, countOf, endOf, wholeOf, afterOf, restAfter, countAfter}
+use Rattle.log_section.specs.Log.{Address, Entries, byte, word, pair, injection, byteIn, wordIn, pairIn, domainsFit, sectionBytes, entriesIn}
+use Rattle.log_section.specs.Log.{logOf, bodyAfter, injectionsOf, entriesOf, goneThrough}
 use Rattle.log.specs.Answer.{readTests, readOf}
 use Rattle.log.specs.declared.answer.Read.the-variants.{Accepted}
 use Rattle.log.proofs.Answers.{Gone, read-gone, all-passed}
-use Rattle.log.proofs.Numbers.{length-little, number-little, little-number, bytes-drop, bytes-take}
-use Rattle.log.proofs.Found.{Whole, whole-is}
-use Rattle.log.proofs.Codec.{Each, Stands, section-length, section-stands, section-read, section-again, entries-count}
+use Rattle.log_section.proofs.Numbers.{length-little, number-little, little-number, bytes-drop, bytes-take}
+use Rattle.log_section.proofs.Found.{Whole, whole-is}
+use Rattle.log_section.proofs.Codec.{Each, Stands, section-length, section-stands, section-read, section-again, entries-count}
 
 pub none : (l : List ℕ) → length l ≡ 0 → l ≡ []
 none [] h = refl

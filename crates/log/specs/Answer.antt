@@ -7,8 +7,8 @@ use mathlib.Core.List.{List, [], _∷_}
 use lib.Dec.{leb, eqb}
 use lib.ListN.{length}
 use Rattle.bits.specs.Decide.{Test, needs, decide}
-use Rattle.log.specs.Section.{restAfter, countAfter, wholeAfter}
-use Rattle.log.specs.Log.{domainsFit, injectionsOf, goneThrough}
+use Rattle.log_section.specs.Section.{restAfter, countAfter, wholeAfter}
+use Rattle.log_section.specs.Log.{domainsFit, injectionsOf, goneThrough}
 use Rattle.log.specs.declared.answer.Read.{Read}
 use Rattle.log.specs.declared.answer.Read.the-variants.{Accepted, TooLong, CutShort, LeftOver, Unequal, WideDomain}
 

@@ -5,8 +5,8 @@ use mathlib.Core.List.{List, [], _∷_}
 use lib.Dec.{eqb}
 use lib.ListN.{length, drop}
 use Rattle.bits.specs.Decide.{needs, decide}
-use Rattle.log.specs.Section.{injectionSize, countOf, wholeOf, afterOf}
-use Rattle.log.specs.Log.{injectionIn, entriesIn, domainsFit}
+use Rattle.log_section.specs.Section.{injectionSize, countOf, wholeOf, afterOf}
+use Rattle.log_section.specs.Log.{injectionIn, entriesIn, domainsFit}
 use Rattle.log.specs.declared.answer.Read.{Read}
 use Rattle.log.specs.declared.answer.Read.the-variants.{Accepted, CutShort, LeftOver, Unequal, WideDomain}
 

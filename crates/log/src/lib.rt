@@ -1,27 +1,22 @@
 // A trap log: what a board saw, in four sections of bytes that a fitter can send.
 //
-// Each section is its count of entries, 32 bits little-endian, and then the entries: the editions seen (one byte each), the syndromes (8
-// bytes), the addresses (FAR and HPFAR, 8 bytes each) and the injections (two bytes: its own, and its domain). Entries are carried and not
-// judged, but for a domain's size.
+// How a log is read, and the sections and entries of log_section, handed on. Entries are carried and not judged, but for a domain's size.
 ghost use Rattle.log.specs.Answer.{Reading};
 
 mod answer;
-mod entry;
-mod number;
-mod section;
 mod sections;
 
 pub use answer::Read;
 pub use answer::gone_in;
 pub use answer::number_of;
 pub use answer::section_in;
-pub use entry::Entry;
-pub use entry::Look;
-pub use entry::Place;
-pub use entry::look_at;
-pub use entry::skip;
-pub use section::LAST_DOMAIN;
-pub use section::Section;
+pub use log_section::Entry;
+pub use log_section::Look;
+pub use log_section::Place;
+pub use log_section::Section;
+pub use log_section::look_at;
+pub use log_section::skip;
+pub use sections::LAST_DOMAIN;
 
 // The longest log: 65,536 bytes.
 pub const MOST: usize = 65536;

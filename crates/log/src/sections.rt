@@ -4,17 +4,19 @@
 ghost use mathlib.Core.Path.{_≡_};
 ghost use Prim.Native.Nat.{_+_, _*_, _≤_, _<_, _^_};
 ghost use lib.ListN.{length, drop};
-ghost use Rattle.log.specs.Section.{injectionSize};
-ghost use Rattle.log.specs.Log.{injectionIn, entriesIn, domainsFit};
+ghost use Rattle.log_section.specs.Section.{injectionSize};
+ghost use Rattle.log_section.specs.Log.{injectionIn, entriesIn, domainsFit};
 ghost use Rattle.log.specs.Inner.{editionsIn, syndromesIn, addressesIn, injectionsIn};
 use super::answer::Read;
-use super::section::ADDRESS;
-use super::section::EDITION;
-use super::section::INJECTION;
-use super::section::LAST_DOMAIN;
-use super::section::SYNDROME;
-use super::section::Section;
-use super::section::front;
+use log_section::ADDRESS;
+use log_section::EDITION;
+use log_section::INJECTION;
+use log_section::SYNDROME;
+use log_section::Section;
+use log_section::front;
+
+// The largest domain that an injection may have.
+pub const LAST_DOMAIN: u8 = 15;
 
 pub fn editions(rest: &[u8]) -> Read
     ensures { λ a. ⌜ a ≡ editionsIn (now (rest .entry)) ⌝ }

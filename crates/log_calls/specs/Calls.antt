@@ -5,10 +5,10 @@ use mathlib.Core.List.{List, [], _∷_}
 use lib.ListN.{length}
 use Rattle.log.specs.Answer.{numberOf, goneIn, sectionIn}
 use Rattle.log.specs.declared.answer.Read.{Read}
-use Rattle.log.specs.declared.section.Section.{Section}
-use Rattle.log.specs.declared.entry.Entry.{Entry}
-use Rattle.log.specs.declared.entry.Look.{Look}
-use Rattle.log.specs.Log.{logOf}
+use Rattle.log_section.specs.declared.section.Section.{Section}
+use Rattle.log_section.specs.declared.entry.Entry.{Entry}
+use Rattle.log_section.specs.declared.entry.Look.{Look}
+use Rattle.log_section.specs.Log.{logOf}
 use Rattle.log_writer.specs.Lists.{Lists, entriesFrom}
 use Rattle.log_writer.specs.Write.{writtenOf, lengthIn, bufferAfter}
 use Rattle.log_writer.specs.Write as writer

@@ -6,7 +6,7 @@ use Prim.Native.Nat.{ℕ, zero, suc, _+_, _-_, _≤_, _<_}
 use native.Mathlib.Omega.{arith}
 use lib.ListN.{length, getD, length-append, length-map, List·getD-append, List·getD-eq-default}
 use lib.Seq.{getD-append-add}
-use Rattle.log.specs.Log.{Address, Entries, nowhere}
+use Rattle.log_section.specs.Log.{Address, Entries, nowhere}
 use Rattle.log_text.specs.Lines.{readText, editionText}
 use Rattle.log.specs.Answer.{readOf}
 use Rattle.text.specs.Append.{Appends}

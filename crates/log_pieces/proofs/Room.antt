@@ -5,7 +5,7 @@ use Prim.Native.Nat.{ℕ, zero, suc, _≤_}
 use native.Mathlib.Omega.{arith}
 use lib.ListN.{length, getD}
 use Rattle.log.specs.Answer.{readOf}
-use Rattle.log.specs.Log.{Address, Entries, injectionByte, domainOf}
+use Rattle.log_section.specs.Log.{Address, Entries, injectionByte, domainOf}
 use Rattle.log_text.specs.Lines.{readText, editionText}
 use Rattle.log_text.proofs.Room.{read-length, edition-length, injection-length}
 use Rattle.trap_text.proofs.Room.{trap-length}

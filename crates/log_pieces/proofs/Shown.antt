@@ -11,16 +11,16 @@ use lib.Dec.{eqb}
 use lib.ListN.{length, getD}
 use Rattle.address.specs.declared.Far.{Far}
 use Rattle.address.specs.declared.Hpfar.{Hpfar}
-use Rattle.log.specs.Section.{injectionSize, sizes, endOf, restAfter, countAfter}
-use Rattle.log.specs.Log.{byteIn, wordIn, pairIn, injectionIn, bodyAfter, entriesOf}
+use Rattle.log_section.specs.Section.{injectionSize, sizes, endOf, restAfter, countAfter}
+use Rattle.log_section.specs.Log.{byteIn, wordIn, pairIn, injectionIn, bodyAfter, entriesOf}
 use Rattle.log.specs.Answer.{numberOf, goneIn, readOf}
-use Rattle.log.specs.Look.{entryGiven}
+use Rattle.log_section.specs.Look.{entryGiven}
 use Rattle.log.specs.declared.answer.Read.{Read}
 use Rattle.log.specs.declared.answer.Read.the-variants.{Accepted, TooLong, CutShort, LeftOver, Unequal, WideDomain}
-use Rattle.log.specs.declared.section.Section.{Section}
-use Rattle.log.specs.declared.entry.Entry.{Entry}
-use Rattle.log.specs.declared.entry.Look.{Look}
-use Rattle.log.proofs.Codec.{entries-count}
+use Rattle.log_section.specs.declared.section.Section.{Section}
+use Rattle.log_section.specs.declared.entry.Entry.{Entry}
+use Rattle.log_section.specs.declared.entry.Look.{Look}
+use Rattle.log_section.proofs.Codec.{entries-count}
 use Rattle.log.proofs.RoundTrip.{accepts, gone-bound, entries-agree}
 use Rattle.record.specs.declared.kinds.Esr.{Esr}
 use Rattle.log_reader.specs.Reader.{lookIn}

@@ -2,7 +2,7 @@
 use Prim.Native.Nat.{ℕ, zero, suc}
 use mathlib.Core.List.{List}
 use lib.ListN.{length, getD}
-use Rattle.log.specs.Log.{Entries, nowhere}
+use Rattle.log_section.specs.Log.{Entries, nowhere}
 use Rattle.log_pieces.specs.Text.{trapPiece}
 
 abbrev pub countIn : Entries → ℕ → ℕ

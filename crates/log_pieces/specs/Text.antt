@@ -7,7 +7,7 @@ use lib.Dec.{eqb}
 use lib.ListN.{getD}
 use Rattle.bits.specs.Among.{among}
 use Rattle.edition.specs.Mask.{maskOf}
-use Rattle.log.specs.Log.{Address, Entries, injectionByte, domainOf, entriesOf}
+use Rattle.log_section.specs.Log.{Address, Entries, injectionByte, domainOf, entriesOf}
 use Rattle.log.specs.Answer.{numberOf, readOf}
 use Rattle.log_text.specs.Lines.{readText, editionText, injectionText}
 use Rattle.trap_text.specs.Shown.{trapText}

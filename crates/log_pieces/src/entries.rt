@@ -2,7 +2,7 @@
 ghost use Prim.Native.Nat.{_<_};
 ghost use mathlib.Core.Path.{_≡_};
 ghost use lib.ListN.{length, getD};
-ghost use Rattle.log.specs.Look.{entryGiven};
+ghost use Rattle.log_section.specs.Look.{entryGiven};
 ghost use Rattle.bits.specs.Among.{among};
 ghost use Rattle.log_pieces.specs.Text.{shown, seenMask};
 ghost use Rattle.log_pieces.specs.Inner.{countIn};

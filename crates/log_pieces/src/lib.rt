@@ -6,7 +6,7 @@ ghost use mathlib.Core.Path.{_≡_};
 ghost use mathlib.Core.List.{[]};
 ghost use lib.ListN.{length, getD};
 ghost use Rattle.text.specs.Append.{Appends};
-ghost use Rattle.log.specs.Look.{entryGiven};
+ghost use Rattle.log_section.specs.Look.{entryGiven};
 ghost use Rattle.log_text.specs.Lines.{entryText};
 ghost use Rattle.log_pieces.specs.Text.{shown, entryPieces, piecesIn, piecesOf};
 ghost use Rattle.log_pieces.specs.Inner.{countIn, trapAt};

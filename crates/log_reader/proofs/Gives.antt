@@ -6,14 +6,14 @@ use Prim.Native.Nat.{ℕ, _+_, _≤_, _<_}
 use native.Mathlib.Nat.{zero-add}
 use native.Mathlib.Omega.{arith}
 use lib.ListN.{getD}
-use Rattle.log.specs.Section.{sizes, endOf, restAfter, countAfter}
-use Rattle.log.specs.Log.{entriesOf}
+use Rattle.log_section.specs.Section.{sizes, endOf, restAfter, countAfter}
+use Rattle.log_section.specs.Log.{entriesOf}
 use Rattle.log.specs.Answer.{readOf}
-use Rattle.log.specs.Look.{lookAt, startAfter, entryGiven}
+use Rattle.log_section.specs.Look.{lookAt, startAfter, entryGiven}
 use Rattle.log.specs.declared.answer.Read.the-variants.{Accepted}
-use Rattle.log.specs.declared.section.Section.{Section}
-use Rattle.log.specs.declared.entry.Place.{Place}
-use Rattle.log.specs.declared.entry.Entry.{Entry}
+use Rattle.log_section.specs.declared.section.Section.{Section}
+use Rattle.log_section.specs.declared.entry.Place.{Place}
+use Rattle.log_section.specs.declared.entry.Entry.{Entry}
 use Rattle.log.proofs.Given.{moved-to, entry-found, entry-past}
 use Rattle.log_reader.specs.Reader.{placeAfter, lookIn}
 

@@ -2,9 +2,9 @@
 -- sections.
 use Prim.Native.Nat.{ℕ}
 use mathlib.Core.List.{List}
-use Rattle.log.specs.Look.{skipFrom, lookAt}
-use Rattle.log.specs.declared.entry.Place.{Place}
-use Rattle.log.specs.declared.entry.Look.{Look}
+use Rattle.log_section.specs.Look.{skipFrom, lookAt}
+use Rattle.log_section.specs.declared.entry.Place.{Place}
+use Rattle.log_section.specs.declared.entry.Look.{Look}
 
 -- the place n sections on from another, or as many as are whole
 abbrev pub placeFrom : List ℕ → ℕ → ℕ → ℕ → Place

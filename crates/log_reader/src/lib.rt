@@ -3,7 +3,7 @@
 // Where the log is refused, a look still gives what stands in the sections that are whole: the answer is for the caller to ask.
 ghost use mathlib.Core.Path.{_≡_};
 ghost use Rattle.log.specs.Answer.{Reading};
-ghost use Rattle.log.specs.Look.{lookAt};
+ghost use Rattle.log_section.specs.Look.{lookAt};
 ghost use Rattle.log_reader.specs.Reader.{placeFrom, lookIn};
 use log::Look;
 use log::Read;

@@ -10,19 +10,19 @@ use borrow.Author.Count.{below-more}
 use lib.Dec.{lit<}
 use lib.ListN.{length, take, drop, getD, set, length-drop}
 use lib.Seq.{drop-drop, ext-getD, getD-take, getD-set-same, getD-set-other, length-take-le}
-use Rattle.log.specs.Number.{number}
-use Rattle.log.specs.Section.{injectionSize, sizes, endOf, restAfter, countAfter}
-use Rattle.log.specs.Log.{Address, nowhere, byteIn, wordIn as wordAt, pairIn, injectionIn, injectionByte, domainOf, entriesIn, entriesOf}
-use Rattle.log.specs.Log.{bodyAfter}
+use Rattle.log_section.specs.Number.{number}
+use Rattle.log_section.specs.Section.{injectionSize, sizes, endOf, restAfter, countAfter}
+use Rattle.log_section.specs.Log.{Address, nowhere, byteIn, wordIn as wordAt, pairIn, injectionIn, injectionByte, domainOf, entriesIn, entriesOf}
+use Rattle.log_section.specs.Log.{bodyAfter}
 use Rattle.log.specs.Answer.{numberOf, readOf}
-use Rattle.log.specs.Look.{sectionAt, startAfter}
+use Rattle.log_section.specs.Look.{sectionAt, startAfter}
 use Rattle.log.specs.declared.answer.Read.{Read}
 use Rattle.log.specs.declared.answer.Read.the-variants.{Accepted, TooLong, CutShort, LeftOver, Unequal, WideDomain}
-use Rattle.log.specs.declared.entry.Place.{Place}
-use Rattle.log.specs.declared.entry.Entry.{Entry}
-use Rattle.log.specs.declared.entry.Look.{Look}
-use Rattle.log.proofs.Codec.{entries-count}
-use Rattle.log.proofs.Places.{standing, end-in}
+use Rattle.log_section.specs.declared.entry.Place.{Place}
+use Rattle.log_section.specs.declared.entry.Entry.{Entry}
+use Rattle.log_section.specs.declared.entry.Look.{Look}
+use Rattle.log_section.proofs.Codec.{entries-count}
+use Rattle.log_section.proofs.Places.{standing, end-in}
 use Rattle.log.proofs.Given.{rest-at, section-stands-at}
 use Rattle.log.proofs.RoundTrip.{accepts}
 use Rattle.log_reader.specs.Reader.{placeAfter, lookIn}

@@ -11,8 +11,8 @@ use lib.Dec.{leb, eqb}
 use lib.ListN.{length, drop}
 use Rattle.bits.specs.Decide.{Test, needs, decide, relabel, AllPass, FailsWith}
 use Rattle.bits.proofs.Deciding.{decide-relabel, decide-append, answer-is, all-pass-relabel, Failing, first-failing, decided-with-exactly}
-use Rattle.log.specs.Number.{Bytes}
-use Rattle.log.specs.Log.{entriesOf, goneThrough}
+use Rattle.log_section.specs.Number.{Bytes}
+use Rattle.log_section.specs.Log.{entriesOf, goneThrough}
 use Rattle.log.specs.Answer.{readTests, readSections, readOf}
 use Rattle.log.specs.Answer.{numberOf as numberRead}
 use Rattle.log.specs.declared.answer.Read.{Read}

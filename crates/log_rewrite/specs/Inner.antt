@@ -1,8 +1,8 @@
 -- Inner contracts, which nobody has to believe.
 use Prim.Native.Nat.{ℕ, _+_, _*_}
 use mathlib.Core.Bool.{Bool, cond}
-use Rattle.log.specs.declared.section.Section.{Section}
-use Rattle.log.specs.declared.entry.Entry.{Entry}
+use Rattle.log_section.specs.declared.section.Section.{Section}
+use Rattle.log_section.specs.declared.entry.Entry.{Entry}
 
 abbrev pub countIn : Section → ℕ
 countIn (Section.Whole count end) = count

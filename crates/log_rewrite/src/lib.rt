@@ -1,6 +1,6 @@
 // A log that is read and written again (request C-14): an accepted log comes out with the same bytes.
 ghost use mathlib.Core.Path.{_≡_};
-ghost use Rattle.log.specs.Log.{entriesOf};
+ghost use Rattle.log_section.specs.Log.{entriesOf};
 ghost use Rattle.log_writer.specs.Lists.{listsOf};
 ghost use Rattle.log_writer.specs.Write.{Writing};
 ghost use Rattle.log_rewrite.specs.Rewrite.{Taken, Rewriting};

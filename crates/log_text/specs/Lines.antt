@@ -6,7 +6,7 @@ use Rattle.address.specs.declared.Hpfar.{Hpfar}
 use Rattle.log.specs.Answer.{numberOf, sectionIn}
 use Rattle.log.specs.declared.answer.Read.{Read}
 use Rattle.log.specs.declared.answer.Read.the-variants.{Accepted, TooLong, CutShort, LeftOver, Unequal, WideDomain}
-use Rattle.log.specs.declared.entry.Entry.{Entry}
+use Rattle.log_section.specs.declared.entry.Entry.{Entry}
 use Rattle.record.specs.declared.kinds.Esr.{Esr}
 use Rattle.text.specs.Ascii.{ascii}
 use Rattle.text.specs.Numeral.{decimalText, hexText}

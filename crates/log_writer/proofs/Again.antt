@@ -9,13 +9,13 @@ use native.Mathlib.Omega.{arith}
 use lib.Dec.{lit<}
 use lib.ListN.{length, take, drop, getD}
 use lib.Seq.{take-at, drop-at}
-use Rattle.log.specs.Number.{Bytes}
-use Rattle.log.specs.Section.{injectionSize}
-use Rattle.log.specs.Log.{Address, Entries, domainsFit, logOf, entriesOf}
+use Rattle.log_section.specs.Number.{Bytes}
+use Rattle.log_section.specs.Section.{injectionSize}
+use Rattle.log_section.specs.Log.{Address, Entries, domainsFit, logOf, entriesOf}
 use Rattle.log.specs.Answer.{readOf}
 use Rattle.log.specs.declared.answer.Read.the-variants.{Accepted}
-use Rattle.log.proofs.Codec.{Each}
-use Rattle.log.proofs.Domains.{domains-fit-exactly}
+use Rattle.log_section.proofs.Codec.{Each}
+use Rattle.log_section.proofs.Domains.{domains-fit-exactly}
 use Rattle.log.proofs.RoundTrip.{Fitting, PairFits, Writable, accepts, log-length, log-again, log-accepted, log-entries, entries-agree}
 use Rattle.log.proofs.RoundTrip.{entries-fit}
 use Rattle.log_writer.specs.Lists.{Lists, paired, entriesFrom, farsOf, hpfarsOf, listsOf}

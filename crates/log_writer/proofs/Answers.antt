@@ -11,8 +11,8 @@ use lib.ListN.{length, getD}
 use Rattle.bits.specs.Decide.{decide, FirstFails}
 use Rattle.bits.proofs.Booleans.{and-left, and-right, not-true-false}
 use Rattle.bits.proofs.Deciding.{decide-relabel, decided-exactly}
-use Rattle.log.specs.Log.{domainOf, domainsFit}
-use Rattle.log.proofs.Domains.{domains-fit-exactly}
+use Rattle.log_section.specs.Log.{domainOf, domainsFit}
+use Rattle.log_section.proofs.Domains.{domains-fit-exactly}
 use Rattle.log_writer.specs.Lists.{Lists}
 use Rattle.log_writer.specs.Write.{numberOf, lengthIn, lengthBy, agreeing, writeTests, writtenOf, writeNumbers, bufferAfter}
 use Rattle.log_writer.specs.declared.answer.Written.{Written}

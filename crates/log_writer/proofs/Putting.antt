@@ -8,9 +8,9 @@ use native.Mathlib.Numerals.{add-one}
 use native.Mathlib.Omega.{arith}
 use lib.ListN.{length, drop, getD, set}
 use lib.Seq.{sets, length-sets, drop-cons, drop-length}
-use Rattle.log.specs.Number.{little}
-use Rattle.log.specs.Log.{Address, byte, pair, nowhere, entryBytes}
-use Rattle.log.proofs.Numbers.{length-little}
+use Rattle.log_section.specs.Number.{little}
+use Rattle.log_section.specs.Log.{Address, byte, pair, nowhere, entryBytes}
+use Rattle.log_section.proofs.Numbers.{length-little}
 use Rattle.log_writer.specs.Lists.{paired}
 
 -- bytes after bytes

@@ -10,8 +10,8 @@ use lib.Dec.{eqb}
 use lib.ListN.{length, drop, length-append}
 use lib.Seq.{sets, sets-eq}
 use Rattle.bits.proofs.Deciding.{decide-relabel, answer-is}
-use Rattle.log.specs.Section.{injectionSize}
-use Rattle.log.specs.Log.{byte, word, pair, injection, domainsFit, sectionBytes, logOf}
+use Rattle.log_section.specs.Section.{injectionSize}
+use Rattle.log_section.specs.Log.{byte, word, pair, injection, domainsFit, sectionBytes, logOf}
 use Rattle.log.proofs.RoundTrip.{numbers-length, pairs-length}
 use Rattle.log_writer.specs.Lists.{Lists, paired, entriesFrom}
 use Rattle.log_writer.specs.Write.{numberOf, lengthIn, lengthBy, writeTests, writtenOf, bufferAfter, Writing}

@@ -2,7 +2,7 @@
 -- of its two bytes (C-21).
 use Prim.Native.Nat.{ℕ}
 use mathlib.Core.List.{List, [], _∷_}
-use Rattle.log.specs.Log.{Address, Entries}
+use Rattle.log_section.specs.Log.{Address, Entries}
 
 pub record Lists : Type 0 where
   pub editions : List ℕ

@@ -6,8 +6,8 @@ use mathlib.Core.List.{List, [], _∷_, _++_}
 use lib.Dec.{leb, eqb}
 use lib.ListN.{length, drop}
 use Rattle.bits.specs.Decide.{Test, needs, decide}
-use Rattle.log.specs.Section.{injectionSize}
-use Rattle.log.specs.Log.{domainsFit, logOf}
+use Rattle.log_section.specs.Section.{injectionSize}
+use Rattle.log_section.specs.Log.{domainsFit, logOf}
 use Rattle.log_writer.specs.Lists.{Lists, entriesFrom}
 use Rattle.log_writer.specs.declared.answer.Written.{Written}
 use Rattle.log_writer.specs.declared.answer.Written.the-variants.{Log, TooLong, Unequal, NoRoom, WideDomain}

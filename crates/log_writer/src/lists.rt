@@ -1,7 +1,7 @@
 // The writer over plain slices. Nothing here tells a syndrome from an address: the crate's `write` does, and no other crate can call this.
 ghost use mathlib.Core.Path.{_≡_};
 ghost use Prim.Native.Nat.{_+_, _*_, min, max};
-ghost use Rattle.log.specs.Log.{domainsFit};
+ghost use Rattle.log_section.specs.Log.{domainsFit};
 ghost use Rattle.log_writer.specs.Lists.{Lists};
 ghost use Rattle.log_writer.specs.Write.{Writing};
 use super::answer::Written;

@@ -3,8 +3,8 @@ ghost use mathlib.Core.Path.{_≡_};
 ghost use Prim.Native.Nat.{_+_, _*_, _≤_};
 ghost use lib.ListN.{length};
 ghost use lib.Seq.{sets};
-ghost use Rattle.log.specs.Number.{little};
-ghost use Rattle.log.specs.Log.{byte, word, pair, injection, sectionBytes};
+ghost use Rattle.log_section.specs.Number.{little};
+ghost use Rattle.log_section.specs.Log.{byte, word, pair, injection, sectionBytes};
 ghost use Rattle.log_writer.specs.Lists.{paired};
 
 // The two bytes of a number.

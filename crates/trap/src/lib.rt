@@ -12,7 +12,6 @@ use record::Esr;
 use record::Origin;
 use record::Record;
 use syndrome::Read;
-
 pub use trap_refusal::TrapRefusal;
 pub use trap_refusal::count;
 pub use trap_refusal::mask;

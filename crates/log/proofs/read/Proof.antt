@@ -8,7 +8,7 @@ use native.Mathlib.Omega.{arith}
 use borrow.Author.Tests.{le-leb, lt-leb}
 use denote.Ref.{now}
 use lib.ListN.{length}
-use Rattle.log.specs.Section.{countAfter}
+use Rattle.log_section.specs.Section.{countAfter}
 use Rattle.log.specs.Answer.{readOf}
 use Rattle.log.specs.Inner.{editionsIn}
 use Rattle.log.proofs.Answers.{promised}

@@ -5,7 +5,7 @@ use mathlib.Core.Path.{_≡_, ap, _∙_}
 use mathlib.Core.List.{List}
 use Prim.Native.Nat.{ℕ}
 use lib.ListN.{length}
-use Rattle.log.specs.Log.{logOf}
+use Rattle.log_section.specs.Log.{logOf}
 use Rattle.log_writer.specs.Lists.{Lists, entriesFrom}
 use Rattle.log_writer.specs.Write.{numberOf, lengthIn, bufferAfter, Writing}
 use Rattle.log_writer.specs.declared.answer.Written.{Written}

@@ -45,10 +45,10 @@ use denote.Triple.Table.{entered, cited}
 use denote.Triple.Walked.{says, Stays, stay-none, walkOf, goes-none, Walks, ends-at, walked, walk-meets}
 use denote.Exit.{yes}
 use denote.Triple.Clauses.{ensured, lasts}
-use Rattle.log.specs.Look.{lookAt}
-use Rattle.log.specs.declared.entry.Look.{Look}
-use Rattle.log.proofs.entry.Look as K
-use Rattle.log.proofs.entry.Look.Laws as K′
+use Rattle.log_section.specs.Look.{lookAt}
+use Rattle.log_section.specs.declared.entry.Look.{Look}
+use Rattle.log_section.proofs.entry.Look as K
+use Rattle.log_section.proofs.entry.Look.Laws as K′
 use Rattle.log.proofs.look_at as look-at
 use Rattle.log.proofs.look_at.Symbol as look-at-def
 use Rattle.log.proofs.look_at.Symbol.{name as #log·look-at}

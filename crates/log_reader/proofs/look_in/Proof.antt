@@ -40,10 +40,10 @@ use denote.Triple.Table.{entered, cited}
 use denote.Triple.Walked.{says, Stays, stay-none, stay-none-slice, walkOf, goes-none, goes-none-slice, Walks, ends-at, walked, walk-meets}
 use denote.Exit.{yes}
 use denote.Triple.Clauses.{ensured, lasts}
-use Rattle.log.specs.Look.{skipFrom, lookAt}
-use Rattle.log.specs.declared.entry.Look.{Look}
-use Rattle.log.proofs.entry.Look as K
-use Rattle.log.proofs.entry.Look.Laws as K′
+use Rattle.log_section.specs.Look.{skipFrom, lookAt}
+use Rattle.log_section.specs.declared.entry.Look.{Look}
+use Rattle.log_section.proofs.entry.Look as K
+use Rattle.log_section.proofs.entry.Look.Laws as K′
 use Rattle.log_reader.specs.Reader.{lookIn}
 use Rattle.log_reader.specs.declared.LogReader.{LogReader}
 use Rattle.log_reader.proofs.LogReader as T

@@ -46,10 +46,10 @@ use denote.Triple.Table.{entered, cited}
 use denote.Triple.Walked.{says, Stays, stay-none, walkOf, goes-none, Walks, ends-at, walked, walk-meets}
 use denote.Exit.{yes}
 use denote.Triple.Clauses.{ensured, lasts}
-use Rattle.log.specs.Look.{skipFrom}
-use Rattle.log.specs.declared.entry.Place.{Place}
-use Rattle.log.proofs.entry.Place as K
-use Rattle.log.proofs.entry.Place.Laws as K′
+use Rattle.log_section.specs.Look.{skipFrom}
+use Rattle.log_section.specs.declared.entry.Place.{Place}
+use Rattle.log_section.proofs.entry.Place as K
+use Rattle.log_section.proofs.entry.Place.Laws as K′
 use Rattle.log.proofs.skip as skipped
 use Rattle.log.proofs.skip.Symbol as skipped-def
 use Rattle.log.proofs.skip.Symbol.{name as #log·skip}

@@ -7,7 +7,7 @@ use native.Mathlib.Omega.{arith}
 use denote.Ref.{now}
 use lib.Dec.{lit<}
 use lib.ListN.{length}
-use Rattle.log.specs.Section.{countAfter}
+use Rattle.log_section.specs.Section.{countAfter}
 use Rattle.log_writer.specs.Lists.{Lists}
 use Rattle.log_writer.specs.Write.{Writing}
 use Rattle.log_rewrite.proofs.Given.{counted, few-traps, few-injections, lists-given}

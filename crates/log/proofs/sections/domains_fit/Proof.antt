@@ -7,10 +7,10 @@ use mathlib.Core.List.{List}
 use native.Mathlib.Omega.{arith}
 use denote.Ref.{now}
 use lib.ListN.{length, drop, getD}
-use Rattle.log.specs.Section.{injectionSize}
-use Rattle.log.specs.Log.{injectionIn, domainOf, domainsFit, entriesIn}
-use Rattle.log.proofs.Codec.{entries-count}
-use Rattle.log.proofs.Domains.{domain-at, wide-here, fits-here, none-left}
+use Rattle.log_section.specs.Section.{injectionSize}
+use Rattle.log_section.specs.Log.{injectionIn, domainOf, domainsFit, entriesIn}
+use Rattle.log_section.proofs.Codec.{entries-count}
+use Rattle.log_section.proofs.Domains.{domain-at, wide-here, fits-here, none-left}
 use Rattle.log.proofs.sections.domains_fit.Statement.{statement}
 use Rattle.log.proofs.sections.domains_fit.Tie as tie
 

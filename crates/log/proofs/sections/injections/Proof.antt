@@ -9,9 +9,9 @@ use borrow.Author.Tests.{eq-eqb, ne-eqb}
 use denote.Ref.{now}
 use lib.Dec.{lit<}
 use lib.ListN.{length, drop, length-drop}
-use Rattle.log.specs.Section.{injectionSize, countOf, endOf, afterOf}
-use Rattle.log.specs.Log.{injectionIn, domainsFit, entriesIn}
-use Rattle.log.proofs.Found.{Found, found, not-found, ends-within, count-within, not-true, not-false}
+use Rattle.log_section.specs.Section.{injectionSize, countOf, endOf, afterOf}
+use Rattle.log_section.specs.Log.{injectionIn, domainsFit, entriesIn}
+use Rattle.log_section.proofs.Found.{Found, found, not-found, ends-within, count-within, not-true, not-false}
 use Rattle.log.proofs.sections.injections.Statement.{statement}
 use Rattle.log.proofs.sections.injections.Tie as tie
 

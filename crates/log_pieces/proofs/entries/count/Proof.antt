@@ -4,7 +4,7 @@ use borrow.Author.Needs.{needs}
 use mathlib.Core.Path.{_≡_, sym, ap, _∙_}
 use denote.Ref.{now}
 use Rattle.log.specs.Answer.{numberOf}
-use Rattle.log.specs.declared.entry.Look.{Look}
+use Rattle.log_section.specs.declared.entry.Look.{Look}
 use Rattle.log_pieces.proofs.Shown.{count-refused, count-whole, count-none}
 use Rattle.log_pieces.proofs.entries.count.Statement.{statement}
 use Rattle.log_pieces.proofs.entries.count.Tie as tie

@@ -3,7 +3,7 @@
 use borrow.Author.Needs.{needs}
 use mathlib.Core.Path.{ap, _∙_}
 use denote.Ref.{now}
-use Rattle.log.specs.declared.entry.Look.{Look}
+use Rattle.log_section.specs.declared.entry.Look.{Look}
 use Rattle.log_pieces.proofs.Shown.{entry-shown}
 use Rattle.log_pieces.proofs.entries.entry.Statement.{statement}
 use Rattle.log_pieces.proofs.entries.entry.Tie as tie

@@ -6,9 +6,9 @@ use Prim.Native.Nat.{ℕ, _+_, _≤_}
 use native.Mathlib.Omega.{arith}
 use denote.Ref.{now}
 use lib.ListN.{length}
-use Rattle.log.specs.Section.{countAfter}
-use Rattle.log.specs.Look.{startAfter}
-use Rattle.log.specs.declared.entry.Place.{Place}
+use Rattle.log_section.specs.Section.{countAfter}
+use Rattle.log_section.specs.Look.{startAfter}
+use Rattle.log_section.specs.declared.entry.Place.{Place}
 use Rattle.log_rewrite.proofs.Given.{stands, counted, bytes-within, bytes-behind}
 use Rattle.log_rewrite.proofs.entries.bytes.Statement.{statement}
 use Rattle.log_rewrite.proofs.entries.bytes.Tie as tie

@@ -6,8 +6,8 @@ use Prim.Native.Nat.{_-_, _≤_}
 use native.Mathlib.Omega.{arith}
 use denote.Ref.{now}
 use lib.ListN.{length, drop}
-use Rattle.log.specs.Log.{domainsFit}
-use Rattle.log.proofs.Domains.{wide-here, fits-here, none-left}
+use Rattle.log_section.specs.Log.{domainsFit}
+use Rattle.log_section.proofs.Domains.{wide-here, fits-here, none-left}
 use Rattle.log_writer.proofs.lists.domains_fit.Statement.{statement}
 use Rattle.log_writer.proofs.lists.domains_fit.Tie as tie
 

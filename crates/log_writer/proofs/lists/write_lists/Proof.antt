@@ -9,8 +9,8 @@ use native.Mathlib.Omega.{arith}
 use denote.Ref.{now}
 use lib.ListN.{length}
 use lib.Seq.{sets}
-use Rattle.log.specs.Log.{word, pair, injection, sectionBytes}
-use Rattle.log.proofs.Found.{not-true, not-false}
+use Rattle.log_section.specs.Log.{word, pair, injection, sectionBytes}
+use Rattle.log_section.proofs.Found.{not-true, not-false}
 use Rattle.log_writer.specs.Lists.{Lists, paired}
 use Rattle.log_writer.specs.Write.{lengthBy}
 use Rattle.log_writer.specs.declared.answer.Written.the-variants.{Log}

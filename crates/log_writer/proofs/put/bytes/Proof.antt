@@ -6,9 +6,9 @@ use Prim.Native.Nat.{_-_}
 use native.Mathlib.Omega.{arith}
 use denote.Ref.{now}
 use lib.ListN.{length}
-use Rattle.log.specs.Number.{little}
-use Rattle.log.specs.Log.{byte, entryBytes}
-use Rattle.log.proofs.Numbers.{length-little}
+use Rattle.log_section.specs.Number.{little}
+use Rattle.log_section.specs.Log.{byte, entryBytes}
+use Rattle.log_section.proofs.Numbers.{length-little}
 use Rattle.log_writer.proofs.Putting.{byte-stored, Putting, begun, put-one, put-all, section-put}
 use Rattle.log_writer.proofs.put.bytes.Statement.{statement}
 use Rattle.log_writer.proofs.put.bytes.Tie as tie

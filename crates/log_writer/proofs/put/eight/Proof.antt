@@ -6,8 +6,8 @@ use Prim.Native.Nat.{_+_, _/_}
 use native.Mathlib.Omega.{arith}
 use denote.Ref.{now}
 use lib.Seq.{sets}
-use Rattle.log.specs.Number.{little}
-use Rattle.log.proofs.Numbers.{length-little}
+use Rattle.log_section.specs.Number.{little}
+use Rattle.log_section.proofs.Numbers.{length-little}
 use Rattle.log_writer.proofs.Putting.{sets-both, eight-bytes}
 use Rattle.log_writer.proofs.put.eight.Statement.{statement}
 use Rattle.log_writer.proofs.put.eight.Tie as tie

@@ -7,9 +7,9 @@ use native.Mathlib.Omega.{arith}
 use denote.Ref.{now}
 use lib.ListN.{length}
 use lib.Seq.{sets}
-use Rattle.log.specs.Number.{little}
-use Rattle.log.specs.Log.{Address, pair, nowhere, entryBytes}
-use Rattle.log.proofs.Numbers.{length-little}
+use Rattle.log_section.specs.Number.{little}
+use Rattle.log_section.specs.Log.{Address, pair, nowhere, entryBytes}
+use Rattle.log_section.proofs.Numbers.{length-little}
 use Rattle.log_writer.proofs.Putting.{paired-length, pair-stored, Putting, begun, put-one, put-all, section-put}
 use Rattle.log.proofs.RoundTrip.{pair-sized}
 use Rattle.log_writer.specs.Lists.{paired}

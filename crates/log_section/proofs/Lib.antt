@@ -1,0 +1,5 @@
+pub mod Numbers
+pub mod Found
+pub mod Places
+pub mod Codec
+pub mod Domains

@@ -1,0 +1,4 @@
+pub mod Number
+pub mod Section
+pub mod Log
+pub mod Look
