@@ -82,7 +82,7 @@ rules-lawful (Record.DataAbort r) p =
 -- ---- an edition: 0, without RAS, has every code, and 1 has AET with code 0x11
 
 -- bits 11:10 that every edition allows
-abbrev plainAet : ℕ → ℕ → Bool
+abbrev pub plainAet : ℕ → ℕ → Bool
 plainAet aet code = eqb aet 0 || eqb code 0x10 && eqb aet 1
 
 or-true : (b : Bool) → (b || true) ≡ true
