@@ -231,8 +231,8 @@ shortTypes =
     ∷ means 3 "Recoverable error (UER)"
     ∷ []
 
--- why no edition has a word, by the number of the rule that it breaks: 11, 15, 16, 18 and 20 of the long form alone (crate reason), 21 to 25
--- of the short form alone (crate short_reason)
+-- why no edition has a word, by the number of the rule that it breaks (crates reason and short_reason): 11, 15, 16, 18 and 20 are of the
+-- long form alone, 21 to 25 of the short form alone
 abbrev pub reasons : List Entry
 reasons =
     means 1 "a bit is set that belongs to no field of the class"

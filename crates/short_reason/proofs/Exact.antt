@@ -105,7 +105,8 @@ data-had code aet wnr isv known bits write syndrome = go (plainAet aet code) ref
   where
     go : (b : Bool) → plainAet aet code ≡ b → DataHad code aet wnr isv
     go true plain =
-        (0, both (both (both known (first-holds (plainAet aet code) false plain)) (or-true (not (asynchronous code && wnr)))) syndrome, refl)
+        let free = or-true (not (asynchronous code && wnr)) in
+        (0, both (both (both known (first-holds (plainAet aet code) false plain)) free) syndrome, refl)
     go false other =
         let is : code ≡ 0x11 = eqb-true code 0x11 (second-holds (plainAet aet code) (eqb code 0x11) other bits) in
         let zero : eqb aet 0 ≡ false = either-false (eqb aet 0) (eqb code 0x10 && eqb aet 1) other in
