@@ -16,16 +16,11 @@ use Rattle.bits.specs.Field.{fieldOf}
 use Rattle.edition.specs.Feature.{lpa}
 use Rattle.edition.specs.Judge.{refusalNumber}
 use Rattle.edition.specs.declared.Refusal.{Refusal}
-use Rattle.explain_text.specs.Word.{whyText}
 use Rattle.explain_text.specs.Trap.{virtualText, intermediateText, addressesText, hpfarText, trapSaid}
 use Rattle.explain_text.specs.Inner as Long
 use Rattle.explain_text.proofs.Said.{read-said, answer-said}
-use Rattle.explain_text.proofs.Five.{reasons-at}
 use Rattle.field_text.proofs.Room.{shape-length}
-use Rattle.names.specs.Name.{meaningOf}
-use Rattle.names.specs.Value.{reasons}
-use Rattle.names.proofs.Room.{meaning-length}
-use Rattle.reason.specs.Reason.{whyOf}
+use Rattle.reason.specs.Reason as LongReason
 use Rattle.question.specs.Feed.{started, fed, finished}
 use Rattle.question.specs.declared.Question.{Question}
 use Rattle.question.specs.declared.State.{State}
@@ -33,9 +28,11 @@ use Rattle.record.specs.declared.kinds.Esr.{Esr}
 use Rattle.record.specs.declared.origin.Origin.{Origin}
 use Rattle.record_text.specs.Inner as LongWord
 use Rattle.refusal_text.specs.Refusal.{refusalText}
-use Rattle.refusal_text.proofs.Room.{refusal-length}
+use Rattle.refusal_text.specs.Why.{whyText}
+use Rattle.refusal_text.proofs.Room.{refusal-length, why-length}
 use Rattle.short.specs.Reading as Short
 use Rattle.short.specs.declared.answer.Read as ShortRead
+use Rattle.short_reason.specs.Reason as ShortReason
 use Rattle.short_record.specs.declared.kinds.Hsr.{Hsr}
 use Rattle.short_text.specs.Inner as ShortLines
 use Rattle.short_text.specs.Said.{shortSaid}
@@ -64,15 +61,6 @@ short-word-length w = shape-length (ShortLines.shapeOf (fieldOf w 31 26) (fieldO
 joined : (a b : List ℕ) (m n : ℕ) {top : ℕ} → length a ≤ m → length b ≤ n → m + n ≤ top → length (a ++ b) ≤ top
 joined a b m n h k s = rw (length-append a b) (omega arith)
 
-either-length : (t : Bool) (a : List ℕ) {top : ℕ} → length a ≤ top → length (cond t a []) ≤ top
-either-length true a h = h
-either-length false a h = omega arith
-
-why-length : (w : ℕ) → length (whyText w) ≤ 140
-why-length w =
-    let r : length (meaningOf reasons (whyOf w)) ≤ 128 = rw reasons-at at (meaning-length 31 (whyOf w)) in
-    simp length-append (omega arith)
-
 choice-length : (t u : Bool) (a b : List ℕ) {top : ℕ} → length a ≤ top → length b ≤ top → length (cond t a (cond u b [])) ≤ top
 choice-length true u a b h k = h
 choice-length false true a b h k = k
@@ -81,8 +69,8 @@ choice-length false false a b h k = omega arith
 refused-length : (w : ℕ) (refusal : Refusal) → length (Long.refusedLines w refusal) ≤ 3632
 refused-length w refusal =
     joined (refusalText false refusal) (Long.othersLines w refusal) 512 3120 (refusal-length false refusal)
-    (choice-length (eqb (refusalNumber refusal) 6) (eqb (refusalNumber refusal) 5) (LongWord.wordText w) (whyText w) (word-length w)
-    (omega (arith, why-length w))) (omega arith)
+    (choice-length (eqb (refusalNumber refusal) 6) (eqb (refusalNumber refusal) 5) (LongWord.wordText w) (whyText (LongReason.whyOf w))
+    (word-length w) (omega (arith, why-length (LongReason.whyOf w)))) (omega arith)
 
 taken-length : (w : ℕ) → length (ascii "taken\n" ++ LongWord.wordText w) ≤ 3126
 taken-length w = joined (ascii "taken\n") (LongWord.wordText w) 6 3120 (omega arith) (word-length w) (omega arith)
@@ -131,7 +119,8 @@ short-length w (ShortRead.Read.Taken r) =
     joined (ascii "taken\n") (ShortLines.wordText w) 6 3120 (omega arith) (short-word-length w) (omega arith)
 short-length w (ShortRead.Read.Refused refusal) =
     joined (refusalText true refusal) (ShortLines.othersLines w refusal) 512 3120 (refusal-length true refusal)
-    (either-length (eqb (refusalNumber refusal) 6) (ShortLines.wordText w) (short-word-length w)) (omega arith)
+    (choice-length (eqb (refusalNumber refusal) 6) (eqb (refusalNumber refusal) 5) (ShortLines.wordText w)
+    (whyText (ShortReason.whyOf w)) (short-word-length w) (omega (arith, why-length (ShortReason.whyOf w)))) (omega arith)
 
 pub answer-length : (q : Question) → length (answerText q) ≤ 4096
 answer-length (Question.Word edition esr) =

@@ -1,6 +1,6 @@
 use borrow.Author.Needs.{needs}
-use Rattle.reason.proofs.kinds.mcr.Statement.{statement}
-use Rattle.reason.proofs.kinds.mcr.Tie as tie
+use Rattle.reason.proofs.kinds.transfer.Statement.{statement}
+use Rattle.reason.proofs.kinds.transfer.Tie as tie
 
 direction-rule-requires : tie.Need-direction-rule-requires
 direction-rule-requires c κs = search needs
@@ -14,5 +14,5 @@ condition-requires c κs = search needs
 returns : tie.Need-returns
 returns c = rw (c .before .unless .ensures, c .before .before .direction-rule .ensures) at (c .condition .ensures)
 
-pub mcr-spec : {M : Type 1} → statement M
-mcr-spec = tie.close (tie.spec direction-rule-requires unless-requires condition-requires returns)
+pub transfer-spec : {M : Type 1} → statement M
+transfer-spec = tie.close (tie.spec direction-rule-requires unless-requires condition-requires returns)
