@@ -1,5 +1,6 @@
--- Every piece has room in 4,096 bytes.
+-- Every piece has room in 65,536 bytes.
 -- Assumes nothing.
+use mathlib.Core.Bool.{Bool}
 use mathlib.Core.List.{List, [], _∷_, _++_, map, zipWith}
 use Prim.Native.Nat.{ℕ, zero, suc, _≤_}
 use native.Mathlib.Omega.{arith}
@@ -12,7 +13,7 @@ use Rattle.trap_text.proofs.Room.{trap-length}
 use Rattle.log_pieces.specs.Text.{shown, trapPiece, injectionPiece, entryPieces, piecesIn}
 
 abbrev pub Short : List ℕ → Type 0
-Short text = length text ≤ 4096
+Short text = length text ≤ 65536
 
 short-map : {A : Type 0} (f : A → List ℕ) → ((a : A) → Short (f a)) → (l : List A) (i : ℕ) → Short (getD (map f l) i [])
 short-map f h [] i = omega arith
@@ -33,18 +34,18 @@ short-both [] m h k i = k i
 short-both (a ∷ l) m h k zero = h zero
 short-both (a ∷ l) m h k (suc i) = short-both l m (λ j. h (suc j)) k i
 
-short-entries : (seen : ℕ) (e : Entries) (i : ℕ) → Short (getD (entryPieces seen e) i [])
+short-entries : (seen : ℕ) (explained : Bool) (e : Entries) (i : ℕ) → Short (getD (entryPieces seen explained e) i [])
 unfolding entryPieces
-short-entries seen e =
+short-entries seen explained e =
     let editions = map editionText (e .editions) in
-    let traps = zipWith (trapPiece seen) (e .syndromes) (e .addresses) in
+    let traps = zipWith (trapPiece seen explained) (e .syndromes) (e .addresses) in
     let injections = map injectionPiece (e .injections) in
     short-both editions (traps ++ injections) (short-map editionText (λ n. omega (arith, edition-length n)) (e .editions))
     (short-both traps injections
-    (short-zip (trapPiece seen) (λ esr a. trap-length seen _ _ _) (e .syndromes) (e .addresses))
+    (short-zip (trapPiece seen explained) (λ esr a. trap-length seen explained _ _ _) (e .syndromes) (e .addresses))
     (short-map injectionPiece (λ n. omega (arith, injection-length (injectionByte n) (domainOf n))) (e .injections)))
 
-pub piece-short : (seen : ℕ) (s : List ℕ) (i : ℕ) → Short (getD (piecesIn seen s) i [])
+pub piece-short : (seen : ℕ) (explained : Bool) (s : List ℕ) (i : ℕ) → Short (getD (piecesIn seen explained s) i [])
 unfolding piecesIn
-piece-short seen s zero = omega (arith, read-length (readOf s))
-piece-short seen s (suc i) = short-entries seen (shown s) i
+piece-short seen explained s zero = omega (arith, read-length (readOf s))
+piece-short seen explained s (suc i) = short-entries seen explained (shown s) i

@@ -1,5 +1,6 @@
 -- Inner contracts, which nobody has to believe: how many entries section n + 1 has, and the lines of trap i.
 use Prim.Native.Nat.{ℕ, zero, suc}
+use mathlib.Core.Bool.{Bool}
 use mathlib.Core.List.{List}
 use lib.ListN.{length, getD}
 use Rattle.log.specs.Log.{Entries, nowhere}
@@ -11,5 +12,5 @@ countIn e (suc zero) = length (e .syndromes)
 countIn e (suc (suc zero)) = length (e .addresses)
 countIn e (suc (suc (suc n))) = length (e .injections)
 
-abbrev pub trapAt : Entries → ℕ → ℕ → List ℕ
-trapAt e seen i = trapPiece seen (getD (e .syndromes) i 0) (getD (e .addresses) i nowhere)
+abbrev pub trapAt : Entries → ℕ → Bool → ℕ → List ℕ
+trapAt e seen explained i = trapPiece seen explained (getD (e .syndromes) i 0) (getD (e .addresses) i nowhere)

@@ -3,6 +3,7 @@
 // log.
 ghost use Prim.Native.Nat.{_<_};
 ghost use mathlib.Core.Path.{_≡_};
+ghost use mathlib.Core.Bool.{Bool};
 ghost use mathlib.Core.List.{[]};
 ghost use lib.ListN.{length, getD};
 ghost use Rattle.text.specs.Append.{Appends};
@@ -16,23 +17,30 @@ mod entries;
 pub use entries::known_editions;
 use log::Entry;
 
-// How many pieces a log's text has.
+// How many pieces a log's text has, whether or not its traps are explained.
 pub fn count(log: &[u8]) -> usize
-    ensures { λ n. ⌜ n ≡ length (piecesOf (now (log .entry))) ⌝ }
+    ensures { λ n. ⌜ (explained : Bool) → n ≡ length (piecesOf explained (now (log .entry))) ⌝ }
 {
     1 + entries::count(log, 0) + entries::count(log, 1) + entries::count(log, 3)
 }
 
 // Trap i.
-fn trap_lines(out: &mut [u8], at: usize, log: &[u8], seen: u32, i: usize) -> usize
+fn trap_lines(
+    out: &mut [u8],
+    at: usize,
+    log: &[u8],
+    seen: u32,
+    explained: bool,
+    i: usize,
+) -> usize
     requires { ⌜ i < countIn (shown (now log)) 1 ⌝ }
-    ensures { λ end. ⌜ Appends (trapAt (shown (now (log .entry))) seen i) (now (out .entry)) at (now (out .exit)) end ⌝ }
+    ensures { λ end. ⌜ Appends (trapAt (shown (now (log .entry))) seen explained i) (now (out .entry)) at (now (out .exit)) end ⌝ }
 {
     let syndrome = entries::entry(log, 1, i);
     let address = entries::entry(log, 2, i);
     if let Entry::Syndrome(esr) = syndrome {
         if let Entry::Address { far, hpfar } = address {
-            return trap_text::trap_lines(out, at, seen, esr, far, hpfar);
+            return trap_text::trap_lines(out, at, seen, explained, esr, far, hpfar);
         }
     }
     at
@@ -47,8 +55,15 @@ fn entry_line(out: &mut [u8], at: usize, log: &[u8], passed: u32, i: usize) -> u
 }
 
 // Piece i of the entries. Past the last there is nothing to append.
-fn entry_piece(out: &mut [u8], at: usize, log: &[u8], seen: u32, i: usize) -> usize
-    ensures { λ end. ⌜ Appends (getD (entryPieces seen (shown (now (log .entry)))) i []) (now (out .entry)) at (now (out .exit)) end ⌝ }
+fn entry_piece(
+    out: &mut [u8],
+    at: usize,
+    log: &[u8],
+    seen: u32,
+    explained: bool,
+    i: usize,
+) -> usize
+    ensures { λ end. ⌜ Appends (getD (entryPieces seen explained (shown (now (log .entry)))) i []) (now (out .entry)) at (now (out .exit)) end ⌝ }
 {
     let editions = entries::count(log, 0);
     if i < editions {
@@ -57,7 +72,7 @@ fn entry_piece(out: &mut [u8], at: usize, log: &[u8], seen: u32, i: usize) -> us
     let j = i - editions;
     let traps = entries::count(log, 1);
     if j < traps {
-        return trap_lines(out, at, log, seen, j);
+        return trap_lines(out, at, log, seen, explained, j);
     }
     let k = j - traps;
     if k < entries::count(log, 3) {
@@ -66,12 +81,19 @@ fn entry_piece(out: &mut [u8], at: usize, log: &[u8], seen: u32, i: usize) -> us
     at
 }
 
-// Piece i of a log's text, its traps in the editions of a mask.
-pub fn piece(out: &mut [u8], at: usize, log: &[u8], seen: u32, i: usize) -> usize
-    ensures { λ end. ⌜ Appends (getD (piecesIn seen (now (log .entry))) i []) (now (out .entry)) at (now (out .exit)) end ⌝ }
+// Piece i of a log's text, its traps in the editions of a mask and explained where that is asked for.
+pub fn piece(
+    out: &mut [u8],
+    at: usize,
+    log: &[u8],
+    seen: u32,
+    explained: bool,
+    i: usize,
+) -> usize
+    ensures { λ end. ⌜ Appends (getD (piecesIn seen explained (now (log .entry))) i []) (now (out .entry)) at (now (out .exit)) end ⌝ }
 {
     if i == 0 {
         return log_text::read_line(out, at, log_reader::read_in(log));
     }
-    entry_piece(out, at, log, seen, i - 1)
+    entry_piece(out, at, log, seen, explained, i - 1)
 }

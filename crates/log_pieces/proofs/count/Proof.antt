@@ -27,9 +27,9 @@ add-result-3 : tie.Need-add-result-3
 add-result-3 c = omega (arith, few-shown (now (c .before .before .before .before .args .log)))
 
 returns : tie.Need-returns
-returns c =
+returns c explained =
     rw (c .before .before .count .ensures, c .before .count2 .ensures, c .count3 .ensures)
-    (pieces-counted (now (c .before .before .before .before .args .log)))
+    (pieces-counted explained (now (c .before .before .before .before .args .log)))
 
 pub count-spec : {M : Type 1} → statement M
 count-spec =

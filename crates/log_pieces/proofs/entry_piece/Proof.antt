@@ -28,7 +28,7 @@ returns c =
     let a = test .before .before .before .before .args in
     let s = now (a .log) in
     let within : a .i < countIn (shown s) 0 = rw (test .before .count .ensures) at (test .if1 .taken) in
-    same-text (edition-piece (a .seen) (shown s) (shown-agree s) (a .i) within) (c .before .before .entry-line .ensures)
+    same-text (edition-piece (a .seen) (a .explained) (shown s) (shown-agree s) (a .i) within) (c .before .before .entry-line .ensures)
 
 count-requires-2 : tie.Need-count-requires-2
 count-requires-2 c κs = search needs
@@ -46,7 +46,7 @@ returns-2 c =
     let start = first .before .before .before .before in
     let s = now (start .args .log) in
     same-text
-    (trap-piece (start .args .seen) (shown s) (shown-agree s) (first .before .count .ensures) (second .before .count2 .ensures)
+    (trap-piece (start .args .seen) (start .args .explained) (shown s) (shown-agree s) (first .before .count .ensures) (second .before .count2 .ensures)
     (start .args .i)
     (first .if1 .left) (second .if2 .taken))
     (c .before .before .trap-lines .ensures)
@@ -68,7 +68,7 @@ returns-3 c =
     let start = first .before .before .before .before in
     let s = now (start .args .log) in
     same-text
-    (injection-piece (start .args .seen) (shown s) (shown-agree s) (first .before .count .ensures) (second .before .count2 .ensures)
+    (injection-piece (start .args .seen) (start .args .explained) (shown s) (shown-agree s) (first .before .count .ensures) (second .before .count2 .ensures)
     (start .args .i)
     (first .if1 .left) (second .if2 .left) (rw (third .before .count3 .ensures) at (third .if3 .taken)))
     (c .before .before .entry-line2 .ensures)
@@ -80,7 +80,7 @@ returns-4 c =
     let start = first .before .before .before .before in
     let s = now (start .args .log) in
     same-text
-    (no-piece (start .args .seen) (shown s) (shown-agree s) (first .before .count .ensures) (second .before .count2 .ensures)
+    (no-piece (start .args .seen) (start .args .explained) (shown s) (shown-agree s) (first .before .count .ensures) (second .before .count2 .ensures)
     (start .args .i)
     (first .if1 .left) (second .if2 .left) (rw (c .before .count3 .ensures) at (c .if3 .left)))
     (appends-none _ _)

@@ -22,7 +22,7 @@ returns c =
     let read = c .before .before .before in
     let test = read .before .before in
     let a = test .before .before .before .args in
-    same-text (ap readText (read .read-in .ensures .answer) ∙ first-piece (a .seen) (now (a .log)) (a .i) (test .if1 .taken))
+    same-text (ap readText (read .read-in .ensures .answer) ∙ first-piece (a .seen) (a .explained) (now (a .log)) (a .i) (test .if1 .taken))
     (c .before .before .read-line .ensures)
 
 sub-entry-piece : tie.Need-sub-entry-piece
@@ -38,7 +38,7 @@ returns-2 : tie.Need-returns-2
 returns-2 c =
     let test = c .before .before .before .before in
     let a = test .before .before .before .args in
-    same-text (later-piece (a .seen) (now (a .log)) (a .i) (test .if1 .left)) (c .before .before .entry-piece .ensures)
+    same-text (later-piece (a .seen) (a .explained) (now (a .log)) (a .i) (test .if1 .left)) (c .before .before .entry-piece .ensures)
 
 pub piece-spec : {M : Type 1} → statement M
 piece-spec =
