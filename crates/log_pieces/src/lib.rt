@@ -19,7 +19,7 @@ use log::Entry;
 
 // How many pieces a log's text has, whether or not its traps are explained.
 pub fn count(log: &[u8]) -> usize
-    ensures { λ n. ⌜ (explained : Bool) → n ≡ length (piecesOf explained (now (log .entry))) ⌝ }
+    ensures { λ n. ⌜ ((explained : Bool) → n ≡ length (piecesOf explained (now (log .entry)))) ⌝ }
 {
     1 + entries::count(log, 0) + entries::count(log, 1) + entries::count(log, 3)
 }
