@@ -18,10 +18,13 @@ pub use answer::section_in;
 pub use entry::Entry;
 pub use entry::Look;
 pub use entry::Place;
+pub use entry::entry_at;
 pub use entry::look_at;
+pub use entry::size_of;
 pub use entry::skip;
 pub use section::LAST_DOMAIN;
 pub use section::Section;
+pub use section::front;
 
 // The longest log: 65,536 bytes.
 pub const MOST: usize = 65536;

@@ -1,0 +1,4 @@
+pub mod Rests
+pub mod Standings
+pub mod Given
+pub mod Accepted
