@@ -2,3 +2,4 @@ pub mod Rests
 pub mod Standings
 pub mod Given
 pub mod Accepted
+pub mod Room

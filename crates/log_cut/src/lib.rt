@@ -6,6 +6,11 @@ ghost use Prim.Native.Nat.{_≤_, _<_, min};
 ghost use lib.ListN.{length, drop};
 ghost use Rattle.log.specs.Section.{injectionSize, countOf, wholeOf, restAfter};
 ghost use Rattle.log_cut.specs.Whole.{standing, wholeCount, wholeEntry, cutOf, cutAfter};
+
+mod line;
+
+pub use line::cut_line;
+pub use line::syndrome_line;
 use log::Entry;
 use log::Section;
 
