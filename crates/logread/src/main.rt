@@ -59,9 +59,10 @@ fn show(file: i32, explained: bool) {
     write_text(&mut out, &space[..n], explained);
 }
 
-const HELP: [u8; 346] = *b"\
+const HELP: [u8; 396] = *b"\
     Shows a trap log: how it was read, the editions seen, each trap with its registers and what\n\
-    each known edition among those seen makes of it, and the injections.\n\
+    each known edition among those seen makes of it, and the injections; of a log that is cut\n\
+    short what precedes the cut.\n\
     \n\
     logread FILE              the log in a file\n\
     logread                   the log on standard input\n\

@@ -1,4 +1,4 @@
--- `log_pieces::count` meets its contract: a piece for the answer, and one for each edition, trap and injection.
+-- `log_pieces::count` meets its contract: a piece for the answer and one for the cut, and one for each edition, trap and injection.
 -- Assumes nothing.
 use borrow.Author.Needs.{needs}
 use native.Mathlib.Omega.{arith}
