@@ -1,22 +1,22 @@
 -- OF AN ACCEPTED LOG every entry stands whole. And no log has more of them than bytes.
 -- Assumes nothing.
-use mathlib.Core.Path.{_≡_, refl, sym, ap, ap₂, _∙_}
+use mathlib.Core.Path.{_≡_, refl}
 use mathlib.Core.Bool.{Bool, true, false, cond}
-use mathlib.Core.List.{List, []}
-use Prim.Native.Nat.{ℕ, zero, suc, _+_, _-_, _*_, _/_, _≤_, _<_}
+use mathlib.Core.List.{List}
+use Prim.Native.Nat.{ℕ, _+_, _-_, _/_, _≤_, _<_}
 use native.Mathlib.Nat.{min-le-right, div-le-self, le-mul-of-pos-right}
 use native.Mathlib.Omega.{arith}
 use borrow.Author.Tests.{le-leb}
 use lib.ListN.{length, length-drop}
-use Rattle.log.specs.Section.{injectionSize, countOf, endOf, wholeOf, afterOf, restAfter, countAfter, wholeAfter}
-use Rattle.log.specs.Log.{Entries, byteIn, wordIn, pairIn, entriesIn, injectionsOf, bodyAfter, entriesOf}
+use Rattle.log.specs.Section.{injectionSize, countOf, endOf, wholeOf, afterOf, restAfter, wholeAfter}
+use Rattle.log.specs.Log.{entriesOf}
 use Rattle.log.specs.Answer.{readOf}
 use Rattle.log.specs.declared.answer.Read.the-variants.{Accepted}
-use Rattle.log.proofs.Found.{Whole, whole-is}
+use Rattle.log.proofs.Found.{whole-is}
 use Rattle.log.proofs.RoundTrip.{accepts}
-use Rattle.log_cut.specs.Whole.{standing, wholeEntries, countIn, wholeCount}
+use Rattle.log_cut.specs.Whole.{standing, wholeEntries, countIn}
 use Rattle.log_cut.proofs.Rests.{past-end}
-use Rattle.log_cut.proofs.Standings.{all-standing, standing-room}
+use Rattle.log_cut.proofs.Standings.{all-standing}
 use Rattle.log_cut.proofs.Given.{standing-counted, injections-counted}
 
 module _ (s : List ℕ) where
@@ -25,8 +25,11 @@ module _ (s : List ℕ) where
   accepted-whole e =
       let a = accepts s e in
       let whole : wholeAfter s 3 ≡ true =
-      simp (le-leb 4 (length (restAfter s 3)) (a .injections .counted), le-leb (endOf injectionSize (restAfter s 3)) (length (restAfter s 3))
-      (a .injections .within)) in
+      simp (
+        le-leb 4 (length (restAfter s 3)) (a .injections .counted),
+        le-leb (endOf injectionSize (restAfter s 3)) (length (restAfter s 3))
+            (a .injections .within),
+      ) in
       rw (
         all-standing 1 (restAfter s 0) (omega arith) (a .editions),
         all-standing 8 (restAfter s 1) (omega arith) (a .syndromes),

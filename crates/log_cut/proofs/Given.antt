@@ -4,18 +4,17 @@ use mathlib.Core.Path.{_≡_, refl, sym, ap, _∙_}
 use mathlib.Core.Bool.{Bool, true, false, cond}
 use mathlib.Core.List.{List, []}
 use Prim.Native.Nat.{ℕ, zero, suc, _+_, _-_, _*_, _≤_, _<_}
-use native.Mathlib.Nat.{mul-le-mul-right, suc-mul, min-le-right, div-le-self}
 use native.Mathlib.Omega.{arith}
-use borrow.Author.Tests.{lt-ltb, le-ltb, ltb-true, le-leb}
+use borrow.Author.Tests.{lt-ltb, le-ltb, ltb-true}
 use lib.Dec.{ltb}
 use lib.ListN.{length, drop, getD, length-drop}
 use lib.Seq.{drop-drop}
-use Rattle.log.specs.Section.{injectionSize, sizes, countOf, endOf, wholeOf, afterOf, restAfter, countAfter, wholeAfter}
+use Rattle.log.specs.Section.{injectionSize, sizes, restAfter, countAfter, wholeAfter}
 use Rattle.log.specs.Log.{Address, nowhere, byteIn, wordIn, pairIn, injectionIn, injectionByte, domainOf, injectionsOf, bodyAfter}
 use Rattle.log.specs.Look.{entryIn, entryAt, entryGiven}
 use Rattle.log.specs.declared.entry.Entry.{Entry}
 use Rattle.log.proofs.Codec.{entries-count, entry-at}
-use Rattle.log.proofs.Found.{Whole, whole-is}
+use Rattle.log.proofs.Found.{whole-is}
 use Rattle.log.proofs.Places.{entry-here}
 use Rattle.log_cut.specs.Whole.{standing, wholeEntries, countIn, wholeCount, wholeEntry, cutOf, cutAfter}
 use Rattle.log_cut.specs.declared.Cut.{Cut}

@@ -12,7 +12,7 @@ use borrow.Author.Tests.{leb-false}
 use lib.Dec.{leb}
 use lib.ListN.{length, take, drop, getD, length-drop, drop-of-length-le}
 use lib.Seq.{drop-nil, drop-length, take-all}
-use Rattle.log.specs.Section.{sizes, endOf, wholeOf, afterOf, sectionOf, restAfter}
+use Rattle.log.specs.Section.{sizes, endOf, wholeOf, afterOf, restAfter}
 use Rattle.log.specs.Look.{sectionAt, movedPast, skipFrom, startAfter}
 use Rattle.log.specs.declared.section.Section.{Section}
 use Rattle.log.specs.declared.entry.Place.{Place}

@@ -1,10 +1,8 @@
 -- How long the lines of a log that is cut short can be.
 -- Assumes nothing.
-use mathlib.Core.List.{List, _++_}
 use Prim.Native.Nat.{ℕ, _≤_}
 use native.Mathlib.Omega.{arith}
 use lib.ListN.{length, length-append}
-use Rattle.log_text.specs.Lines.{decimalField, hexField}
 use Rattle.log_text.proofs.Room.{decimal-field-length, hex-field-length}
 use Rattle.record.specs.declared.kinds.Esr.{Esr}
 use Rattle.log_cut.specs.Line.{syndromeText, beforeText, cutText}

@@ -3,13 +3,13 @@
 use mathlib.Core.Path.{_≡_, refl, sym, ap, _∙_}
 use mathlib.Core.Bool.{Bool, true, false, cond}
 use mathlib.Core.List.{List}
-use Prim.Native.Nat.{ℕ, zero, suc, _+_, _-_, _*_, _/_, _≤_, _<_, min}
-use native.Mathlib.Nat.{min-le-left, min-le-right, min-eq-left, min-eq-right, le-div-iff-mul-le, div-le-self, suc-mul}
+use Prim.Native.Nat.{ℕ, suc, _+_, _-_, _*_, _/_, _≤_, _<_, min}
+use native.Mathlib.Nat.{min-le-right, min-eq-left, min-eq-right, le-div-iff-mul-le, div-le-self, suc-mul}
 use native.Mathlib.Omega.{arith}
-use borrow.Author.Tests.{le-leb, lt-leb, leb-true, leb-false}
+use borrow.Author.Tests.{le-leb, lt-leb, leb-false}
 use lib.Dec.{leb}
 use lib.ListN.{length}
-use Rattle.log.specs.Section.{countOf, endOf, wholeOf, sectionOf}
+use Rattle.log.specs.Section.{countOf, wholeOf, sectionOf}
 use Rattle.log.specs.declared.section.Section.{Section}
 use Rattle.log.proofs.Found.{Whole, whole-is, found, not-found}
 use Rattle.log_cut.specs.Whole.{standing, cutOf}

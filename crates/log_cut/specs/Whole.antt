@@ -14,8 +14,8 @@ use Rattle.log_cut.specs.declared.Cut.{Cut}
 abbrev pub standing : ℕ → List ℕ → ℕ
 standing size rest = min (countOf rest) ((length rest - 4) / size)
 
--- THE ENTRIES THAT STAND WHOLE. Behind a section that is cut there is nothing. Injections are among them only where their section is whole: in
--- an older log one was a byte (C-21), and would be misread.
+-- THE ENTRIES THAT STAND WHOLE. Behind a section that is cut there is nothing. Injections are among them only where their section is whole:
+-- in an older log one was a byte (C-21), and would be misread.
 unfoldable pub wholeEntries : List ℕ → Entries
 wholeEntries s =
     record {

@@ -17,9 +17,15 @@ use log::Section;
 // Where a section is cut.
 pub enum Cut {
     // Within its count, of which so many bytes are there.
-    Count { bytes: usize },
+    Count {
+        bytes: usize,
+    },
     // After so many whole entries of those that its count says, and so many bytes behind the count.
-    Entries { whole: usize, count: usize, bytes: usize },
+    Entries {
+        whole: usize,
+        count: usize,
+        bytes: usize,
+    },
 }
 
 // Where a section starts, or the log's end where one before it is cut.

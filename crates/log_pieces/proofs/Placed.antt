@@ -13,8 +13,8 @@ use Rattle.log_cut.specs.Whole.{countIn}
 use Rattle.log_cut.specs.Line.{syndromeText}
 use Rattle.log_text.specs.Lines.{editionText}
 use Rattle.text.specs.Append.{Appends}
-use Rattle.log_pieces.specs.Text.{shown, seenMask, trapPiece, trapPieces, injectionPiece, entryPieces, firstText, lastText, laterPieces}
-use Rattle.log_pieces.specs.Text.{piecesIn, piecesOf}
+use Rattle.log_pieces.specs.Text.{shown, seenMask, trapPiece, trapPieces, injectionPiece, entryPieces, firstText, lastText}
+use Rattle.log_pieces.specs.Text.{laterPieces, piecesIn, piecesOf}
 
 map-at : {A : Type 0} (f : A → List ℕ) (l : List A) (i : ℕ) (other : A) → i < length l → getD (map f l) i [] ≡ f (getD l i other)
 map-at f [] i other h = absurd (omega arith)
@@ -98,7 +98,8 @@ module _ (seen : ℕ) (explained : Bool) (s : List ℕ) where
       sym (List·getD-append (entryPieces seen explained entries) (lastText s ∷ []) [] i (rw (entries-length seen explained entries) h))
 
   after-entries : (i : ℕ) → countIn entries 0 + countIn entries 1 + countIn entries 3 ≤ i
-      → getD (lastText s ∷ []) (i - (countIn entries 0 + countIn entries 1 + countIn entries 3)) [] ≡ getD (laterPieces seen explained s) i []
+      → getD (lastText s ∷ []) (i - (countIn entries 0 + countIn entries 1 + countIn entries 3)) []
+      ≡ getD (laterPieces seen explained s) i []
   unfolding laterPieces
   after-entries i h =
       sym (past (entryPieces seen explained entries) (lastText s ∷ []) i (countIn entries 0 + countIn entries 1 + countIn entries 3)

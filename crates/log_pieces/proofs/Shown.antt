@@ -13,7 +13,6 @@ use Rattle.address.specs.declared.Hpfar.{Hpfar}
 use Rattle.log.specs.Log.{entriesOf}
 use Rattle.log.specs.Answer.{numberOf, readOf}
 use Rattle.log.specs.Look.{entryGiven}
-use Rattle.log.specs.declared.answer.Read.{Read}
 use Rattle.log.specs.declared.answer.Read.the-variants.{Accepted, TooLong, CutShort, LeftOver, Unequal, WideDomain}
 use Rattle.log.specs.declared.entry.Entry.{Entry}
 use Rattle.record.specs.declared.kinds.Esr.{Esr}

@@ -14,7 +14,8 @@ unfolding flatten
 flatten-one-more [] last = append-nil last
 flatten-one-more (a ∷ l) last = ap (λ (rest : List ℕ). a ++ rest) (flatten-one-more l last) ∙ sym (append-assoc a (flatten l) last)
 
-written-so-far : (explained : Bool) (s : List ℕ) (n : ℕ) → n ≤ length (piecesOf explained s) → writtenAfter explained s n ≡ flatten (take n (piecesOf explained s))
+written-so-far : (explained : Bool) (s : List ℕ) (n : ℕ) → n ≤ length (piecesOf explained s)
+    → writtenAfter explained s n ≡ flatten (take n (piecesOf explained s))
 unfolding flatten
 written-so-far explained s zero h = refl
 written-so-far explained s (suc n) h =
@@ -25,4 +26,5 @@ written-so-far explained s (suc n) h =
 -- WRITTEN: the pieces that the program goes through are the text of the log
 pub all-written : (explained : Bool) (s : List ℕ) → writtenAfter explained s (length (piecesOf explained s)) ≡ logText explained s
 unfolding logText
-all-written explained s = written-so-far explained s (length (piecesOf explained s)) (omega arith) ∙ ap flatten (take-length (piecesOf explained s))
+all-written explained s =
+    written-so-far explained s (length (piecesOf explained s)) (omega arith) ∙ ap flatten (take-length (piecesOf explained s))

@@ -1,6 +1,6 @@
--- The text of a log: how the log was read; of a log that was accepted, or is cut short, the editions seen, in the log's order, each trap with
--- its registers and what each known edition among those seen makes of it, explained where that is asked for, and the injections; and where
--- it is cut short, that this is what precedes the cut, and where the cut is.
+-- The text of a log: how the log was read; of a log that was accepted, or is cut short, the editions seen, in the log's order, each trap
+-- with its registers and what each known edition among those seen makes of it, explained where that is asked for, and the injections; and
+-- of one that is cut short, that this is what precedes the cut, and where the cut is.
 use Prim.Native.Nat.{ℕ, zero, suc, _-_}
 use mathlib.Core.Bool.{Bool, cond, _||_}
 use mathlib.Core.List.{List, [], _∷_, _++_, map, flatten}

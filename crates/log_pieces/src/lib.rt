@@ -1,6 +1,6 @@
 // The text of a log in pieces, each appended to a buffer as `text::append` does: how the log was read; of a log that was accepted or is cut
-// short the line of each edition seen, the lines of each trap and the line of each injection; and where it is cut. All pieces together may be
-// many times as long as the log.
+// short the line of each edition seen, the lines of each trap and the line of each injection; and where it is cut. All pieces together may
+// be many times as long as the log.
 ghost use Prim.Native.Nat.{_<_};
 ghost use mathlib.Core.Path.{_≡_};
 ghost use mathlib.Core.Bool.{Bool};
@@ -27,14 +27,7 @@ pub fn count(log: &[u8]) -> usize
 }
 
 // Trap i, or its syndrome alone where its address doesn't precede the cut.
-fn trap_lines(
-    out: &mut [u8],
-    at: usize,
-    log: &[u8],
-    seen: u32,
-    explained: bool,
-    i: usize,
-) -> usize
+fn trap_lines(out: &mut [u8], at: usize, log: &[u8], seen: u32, explained: bool, i: usize) -> usize
     requires { ⌜ i < countIn (shown (now log)) 1 ⌝ }
     ensures { λ end. ⌜ Appends (getD (trapPieces seen explained (shown (now (log .entry)) .syndromes) (shown (now (log .entry)) .addresses)) i []) (now (out .entry)) at (now (out .exit)) end ⌝ }
 {
@@ -83,14 +76,7 @@ fn last_line(out: &mut [u8], at: usize, log: &[u8]) -> usize
 }
 
 // Piece i of those after the first. Past the last there is nothing to append.
-fn later_piece(
-    out: &mut [u8],
-    at: usize,
-    log: &[u8],
-    seen: u32,
-    explained: bool,
-    i: usize,
-) -> usize
+fn later_piece(out: &mut [u8], at: usize, log: &[u8], seen: u32, explained: bool, i: usize) -> usize
     ensures { λ end. ⌜ Appends (getD (laterPieces seen explained (now (log .entry))) i []) (now (out .entry)) at (now (out .exit)) end ⌝ }
 {
     let editions = entries::count(log, 0);
@@ -114,14 +100,7 @@ fn later_piece(
 }
 
 // Piece i of a log's text, its traps in the editions of a mask and explained where that is asked for.
-pub fn piece(
-    out: &mut [u8],
-    at: usize,
-    log: &[u8],
-    seen: u32,
-    explained: bool,
-    i: usize,
-) -> usize
+pub fn piece(out: &mut [u8], at: usize, log: &[u8], seen: u32, explained: bool, i: usize) -> usize
     ensures { λ end. ⌜ Appends (getD (piecesIn seen explained (now (log .entry))) i []) (now (out .entry)) at (now (out .exit)) end ⌝ }
 {
     if i == 0 {

@@ -29,7 +29,7 @@ pub fn hex_field(out: &mut [u8], at: usize, n: u64) -> usize
 pub fn edition_field(out: &mut [u8], at: usize, edition: u32) -> usize
     ensures { λ end. ⌜ Appends (editionField edition) (now (out .entry)) at (now (out .exit)) end ⌝ }
 {
-    if edition::known(edition) {
+    if edition < edition::EDITIONS {
         return hex_field(out, at, edition as u64);
     }
     let number = decimal_field(out, at, edition as u64);

@@ -52,7 +52,8 @@ shown-length edition esr far hpfar =
     let a = answer-length (answerOf Origin.AArch32 edition esr far hpfar) in
     simp length-append (omega arith)
 
-told-length : (explained : Bool) (edition : ℕ) (esr : Esr) (far : Far) (hpfar : Hpfar) → length (toldText explained edition esr far hpfar) ≤ 3760
+told-length : (explained : Bool) (edition : ℕ) (esr : Esr) (far : Far) (hpfar : Hpfar)
+    → length (toldText explained edition esr far hpfar) ≤ 3760
 told-length true edition esr far hpfar =
     rw (length-append (shownText edition esr far hpfar) (trapSaid edition esr far hpfar))
     (omega (arith, shown-length edition esr far hpfar, trap-said-length edition esr far hpfar))

@@ -1,9 +1,8 @@
 -- `log_cut::count` meets its contract: injections are counted in a whole section alone.
 -- Assumes nothing.
 use borrow.Author.Needs.{needs}
-use mathlib.Core.Path.{_≡_, sym, ap, _∙_}
+use mathlib.Core.Path.{_∙_}
 use denote.Ref.{now}
-use Rattle.log.specs.Section.{injectionSize, countOf, wholeOf}
 use Rattle.log_cut.proofs.Rests.{part-there, some-size}
 use Rattle.log_cut.proofs.Given.{none-counted, standing-counted, injections-counted}
 use Rattle.log_cut.proofs.count.Statement.{statement}

@@ -1,9 +1,8 @@
 -- `log_cut::cut_after` meets its contract: the part of the log from the section's start on is its rest.
 -- Assumes nothing.
 use borrow.Author.Needs.{needs}
-use mathlib.Core.Path.{_≡_, sym, ap, _∙_}
+use mathlib.Core.Path.{_∙_}
 use denote.Ref.{now}
-use native.Mathlib.Omega.{arith}
 use Rattle.log_cut.proofs.Rests.{part-there, some-size}
 use Rattle.log_cut.proofs.Given.{cut-nowhere, cut-there}
 use Rattle.log_cut.proofs.cut_after.Statement.{statement}

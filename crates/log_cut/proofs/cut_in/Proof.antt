@@ -1,7 +1,7 @@
 -- `log_cut::cut_in` meets its contract: within the count where four bytes are not there.
 -- Assumes nothing.
 use borrow.Author.Needs.{needs}
-use mathlib.Core.Path.{_≡_, sym, ap, _∙_}
+use mathlib.Core.Path.{sym, _∙_}
 use native.Mathlib.Omega.{arith}
 use denote.Ref.{now}
 use Rattle.log_cut.proofs.Standings.{count-whole, count-cut, cut-behind, cut-within}

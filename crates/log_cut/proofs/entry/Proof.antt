@@ -1,12 +1,11 @@
 -- `log_cut::entry` meets its contract: an entry that stands whole lies within the log.
 -- Assumes nothing.
 use borrow.Author.Needs.{needs}
-use mathlib.Core.Path.{_≡_, sym, _∙_}
-use Prim.Native.Nat.{_+_, _*_, _≤_, _<_}
+use mathlib.Core.Path.{_∙_}
+use Prim.Native.Nat.{_+_, _*_, _≤_}
 use native.Mathlib.Omega.{arith}
 use denote.Ref.{now}
 use lib.ListN.{length}
-use Rattle.log_cut.specs.Whole.{wholeCount}
 use Rattle.log_cut.proofs.Given.{in-a-section, no-entry-past, room-there, entry-there}
 use Rattle.log_cut.proofs.entry.Statement.{statement}
 use Rattle.log_cut.proofs.entry.Tie as tie

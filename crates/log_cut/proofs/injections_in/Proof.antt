@@ -1,7 +1,7 @@
 -- `log_cut::injections_in` meets its contract: the count of a whole section.
 -- Assumes nothing.
 use borrow.Author.Needs.{needs}
-use mathlib.Core.Path.{_≡_, sym, _∙_}
+use mathlib.Core.Path.{sym, _∙_}
 use denote.Ref.{now}
 use Rattle.log.specs.Section.{injectionSize}
 use Rattle.log_cut.proofs.Standings.{counted-whole, counted-cut}

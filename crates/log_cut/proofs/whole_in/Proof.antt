@@ -1,7 +1,7 @@
 -- `log_cut::whole_in` meets its contract: what the cut tells.
 -- Assumes nothing.
 use borrow.Author.Needs.{needs}
-use mathlib.Core.Path.{_≡_, sym, _∙_}
+use mathlib.Core.Path.{sym, _∙_}
 use denote.Ref.{now}
 use Rattle.log_cut.proofs.Standings.{told-behind, told-within}
 use Rattle.log_cut.proofs.whole_in.Statement.{statement}

@@ -1,7 +1,7 @@
 -- `log_pieces::first_lines` meets its contract: a log that is cut short is announced.
 -- Assumes nothing.
 use borrow.Author.Needs.{needs}
-use mathlib.Core.Path.{_≡_, sym, _∙_}
+use mathlib.Core.Path.{sym, _∙_}
 use borrow.Author.Tests.{eq-eqb, ne-eqb}
 use Rattle.log.specs.Answer.{numberOf}
 use Rattle.text.proofs.Appending.{appends-both, appends-none}

@@ -4,14 +4,13 @@ use borrow.Author.Needs.{needs}
 use mathlib.Core.Path.{_≡_, sym, ap, _∙_}
 use mathlib.Core.Bool.{Bool, cond}
 use mathlib.Core.List.{[]}
-use Prim.Native.Nat.{ℕ, _-_}
+use Prim.Native.Nat.{_-_}
 use native.Mathlib.Omega.{arith}
 use borrow.Author.Tests.{eq-eqb, ne-eqb}
 use denote.Ref.{now}
 use Rattle.log.specs.Answer.{numberOf, sectionIn, readOf}
 use Rattle.log.proofs.Answers.{section-named}
 use Rattle.log_cut.specs.Line.{cutText}
-use Rattle.log_cut.specs.Whole.{cutAfter}
 use Rattle.text.proofs.Appending.{appends-none}
 use Rattle.log_pieces.specs.Text.{cutIn}
 use Rattle.log_pieces.proofs.Placed.{same-text}

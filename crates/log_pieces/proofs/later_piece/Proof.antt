@@ -1,7 +1,6 @@
 -- `log_pieces::later_piece` meets its contract: the editions' pieces come first, then the traps', then the injections', and the cut's last.
 -- Assumes nothing.
 use borrow.Author.Needs.{needs}
-use mathlib.Core.Path.{_≡_}
 use Prim.Native.Nat.{_<_}
 use native.Mathlib.Omega.{arith}
 use denote.Ref.{now}

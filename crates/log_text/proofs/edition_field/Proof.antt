@@ -1,13 +1,11 @@
 -- `log_text::edition_field` meets its contract: a number that is an edition's is a digit.
 -- Assumes nothing.
 use borrow.Author.Needs.{needs}
-use mathlib.Core.Path.{sym, _∙_}
+use borrow.Author.Tests.{lt-ltb, le-ltb}
+use native.Mathlib.Omega.{arith}
 use Rattle.text.proofs.Appending.{appends-both}
 use Rattle.log_text.proofs.edition_field.Statement.{statement}
 use Rattle.log_text.proofs.edition_field.Tie as tie
-
-known-requires : tie.Need-known-requires
-known-requires c κs = search needs
 
 hex-field-requires : tie.Need-hex-field-requires
 hex-field-requires c κs = search needs
@@ -18,7 +16,7 @@ same-length c = search needs
 returns : tie.Need-returns
 returns c =
     let tested = c .before .before .before .before in
-    rw (sym (tested .before .known .ensures) ∙ tested .if1 .taken) (c .before .before .hex-field .ensures)
+    rw (lt-ltb (tested .before .before .args .edition) 16 (omega (arith, tested .if1 .taken))) (c .before .before .hex-field .ensures)
 
 decimal-field-requires : tie.Need-decimal-field-requires
 decimal-field-requires c κs = search needs
@@ -36,14 +34,13 @@ returns-2 : tie.Need-returns-2
 returns-2 c =
     let number = c .before .before .before .before .before .before .before in
     let tested = number .before .before in
-    rw (sym (tested .before .known .ensures) ∙ tested .if1 .left)
+    rw (le-ltb (tested .before .before .args .edition) 16 (omega (arith, tested .if1 .left)))
     (appends-both (number .decimal-field .ensures) (c .before .before .append .ensures))
 
 pub edition-field-spec : {M : Type 1} → statement M
 edition-field-spec =
     tie.close
     (tie.spec
-    known-requires
     hex-field-requires
     same-length
     returns

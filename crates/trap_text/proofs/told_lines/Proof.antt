@@ -1,7 +1,6 @@
 -- `trap_text::told_lines` meets its contract: what is said of the trap comes after its line, where it is asked for.
 -- Assumes nothing.
 use borrow.Author.Needs.{needs}
-use mathlib.Core.Path.{ap}
 use Rattle.text.proofs.Appending.{appends-both, appends-none}
 use Rattle.trap_text.proofs.told_lines.Statement.{statement}
 use Rattle.trap_text.proofs.told_lines.Tie as tie

@@ -1,7 +1,7 @@
 -- `log::entry::entry_at` meets its contract: an entry is there where all its bytes are.
 -- Assumes nothing.
 use borrow.Author.Needs.{needs}
-use mathlib.Core.Path.{_≡_, _∙_}
+use mathlib.Core.Path.{_∙_}
 use native.Mathlib.Omega.{arith}
 use denote.Ref.{now}
 use Rattle.log.proofs.Places.{no-section, no-entry, entry-here}

@@ -1,7 +1,7 @@
 -- `log_pieces::entries::count` meets its contract: those that stand whole, or none.
 -- Assumes nothing.
 use borrow.Author.Needs.{needs}
-use mathlib.Core.Path.{_≡_, sym, _∙_}
+use mathlib.Core.Path.{sym, _∙_}
 use denote.Ref.{now}
 use Rattle.log_pieces.proofs.Shown.{count-shown, count-none}
 use Rattle.log_pieces.proofs.entries.count.Statement.{statement}

@@ -1,7 +1,7 @@
 -- `log_pieces::entries::is_shown` meets its contract: by the number of the answer.
 -- Assumes nothing.
 use borrow.Author.Needs.{needs}
-use mathlib.Core.Path.{_≡_, ap, _∙_}
+use mathlib.Core.Path.{ap, _∙_}
 use denote.Ref.{now}
 use Rattle.log.specs.Answer.{numberOf}
 use Rattle.log_pieces.proofs.Shown.{shown-accepted, shown-by-thirteen}
