@@ -75,7 +75,8 @@ fn word(catalogue: &Catalogue, edition: u32, word: u64) -> String {
     }
 }
 
-fn trap(catalogue: &Catalogue, edition: u32, registers: Registers) -> String {
+/// What is said of a whole trap in an edition.
+pub fn trap(catalogue: &Catalogue, edition: u32, registers: Registers) -> String {
     match read_trap(catalogue, edition, registers) {
         Ok(trap) => {
             format!("taken\n{}{}", fields(catalogue.form, &trap.record), addresses(&trap))
