@@ -7,10 +7,10 @@ ghost use lib.ListN.{length, drop};
 ghost use Rattle.log_section.specs.Section.{injectionSize, countOf, wholeOf, restAfter};
 ghost use Rattle.log_cut.specs.Whole.{standing, wholeCount, wholeEntry, cutOf, cutAfter};
 
-mod line;
+mod cut_lines;
 
-pub use line::cut_line;
-pub use line::syndrome_line;
+pub use cut_lines::cut_line;
+pub use cut_lines::syndrome_line;
 use log::Entry;
 use log::Section;
 

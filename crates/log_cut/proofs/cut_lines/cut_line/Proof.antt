@@ -1,9 +1,9 @@
--- `log_cut::line::cut_line` meets its contract: one text after another.
+-- `log_cut::cut_lines::cut_line` meets its contract: one text after another.
 -- Assumes nothing.
 use borrow.Author.Needs.{needs}
 use Rattle.text.proofs.Appending.{appends-both}
-use Rattle.log_cut.proofs.line.cut_line.Statement.{statement}
-use Rattle.log_cut.proofs.line.cut_line.Tie as tie
+use Rattle.log_cut.proofs.cut_lines.cut_line.Statement.{statement}
+use Rattle.log_cut.proofs.cut_lines.cut_line.Tie as tie
 
 slice-aggregate-append : tie.Need-slice-aggregate-append
 slice-aggregate-append c = search needs

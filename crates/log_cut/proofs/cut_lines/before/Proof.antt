@@ -1,11 +1,11 @@
--- `log_cut::line::before` meets its contract: the text of the cut that was found.
+-- `log_cut::cut_lines::before` meets its contract: the text of the cut that was found.
 -- Assumes nothing.
 use borrow.Author.Needs.{needs}
 use mathlib.Core.Path.{ap}
 use Rattle.text.proofs.Appending.{appends-both}
 use Rattle.log_cut.specs.Line.{beforeText}
-use Rattle.log_cut.proofs.line.before.Statement.{statement}
-use Rattle.log_cut.proofs.line.before.Tie as tie
+use Rattle.log_cut.proofs.cut_lines.before.Statement.{statement}
+use Rattle.log_cut.proofs.cut_lines.before.Tie as tie
 
 enum-known-cut : tie.Need-enum-known-cut
 enum-known-cut c = search needs

@@ -1,9 +1,9 @@
--- `log_cut::line::syndrome_line` meets its contract: one text after another.
+-- `log_cut::cut_lines::syndrome_line` meets its contract: one text after another.
 -- Assumes nothing.
 use borrow.Author.Needs.{needs}
 use Rattle.text.proofs.Appending.{appends-both}
-use Rattle.log_cut.proofs.line.syndrome_line.Statement.{statement}
-use Rattle.log_cut.proofs.line.syndrome_line.Tie as tie
+use Rattle.log_cut.proofs.cut_lines.syndrome_line.Statement.{statement}
+use Rattle.log_cut.proofs.cut_lines.syndrome_line.Tie as tie
 
 slice-aggregate-append : tie.Need-slice-aggregate-append
 slice-aggregate-append c = search needs
