@@ -75,7 +75,8 @@ fn word(catalogue: &Catalogue, edition: u32, word: u64) -> String {
     }
 }
 
-fn trap(catalogue: &Catalogue, edition: u32, registers: Registers) -> String {
+/// What is said of a whole trap in an edition.
+pub fn trap(catalogue: &Catalogue, edition: u32, registers: Registers) -> String {
     match read_trap(catalogue, edition, registers) {
         Ok(trap) => {
             format!("taken\n{}{}", fields(catalogue.form, &trap.record), addresses(&trap))
@@ -120,11 +121,10 @@ fn refused(catalogue: &Catalogue, word: u64, refusal: Refusal) -> String {
         2 => "refused 2: bits 63:32 are not zero\n".into(),
         3 => "refused 3: EC 31:26 is no class of the build\n".into(),
         4 => "refused 4: IL 25 is 0 where it must be 1\n".into(),
-        5 if form.editions == 16 => {
+        5 => {
             let rule = why(form, word as u32).expect("a rule that the word breaks");
             format!("refused 5: no edition has it\nwhy: {rule}\n")
         }
-        5 => "refused 5: no edition has it\n".into(),
         _ => {
             let entry = catalogue.find(word as u32).expect("what other editions have");
             format!(
@@ -137,8 +137,17 @@ fn refused(catalogue: &Catalogue, word: u64, refusal: Refusal) -> String {
     }
 }
 
-/// The first rule that a word of the long form breaks, in the order of the
-/// definition: the fixed code, bits of no field, and the rules of its class.
+/// Whether some record of a class that some edition has holds a fault code.
+fn is_code(form: &Form, class: u8, code: u32) -> bool {
+    let kind = form.kind_of_class(class).expect("a class of the form");
+    let mut families =
+        form.every_edition().flat_map(|edition| (form.families)(kind, class, edition));
+    families.any(|family| family.allows("code", code))
+}
+
+/// The first rule that a word breaks, in the order of the definition: the fixed
+/// code, bits of no field, and the rules of its class. A rule of fields that a
+/// form lacks is broken by none of its words.
 fn why(form: &Form, word: u32) -> Option<&'static str> {
     let class = (word >> 26) as u8;
     let kind = form.kind_of_class(class).expect("a class of the form");
@@ -148,15 +157,14 @@ fn why(form: &Form, word: u32) -> Option<&'static str> {
     let named = kind.fields.iter().fold(0x3f << 26, |bits, field| bits | field.place());
     let (code, set) = (get("code"), get("SET"));
     let is_mmu_fault = matches!(code, 0x00..=0x0f | 0x29 | 0x2b);
+    let is_short = form.editions == 2;
     let is_data = class == 0x24;
     let is_abort = is_data || class == 0x20;
+    // An SError interrupt among the aborts, and what its bits 11:10 hold.
+    let is_interrupt = is_short && is_data && matches!(code, 0x11 | 0x19);
+    let aet = if is_data { get("AET") } else { 0 };
     // ISS[23:14] of a data abort.
     let syndrome = word >> 14 & 0x3ff;
-    let known_code = match code {
-        0x11 | 0x12 | 0x19 | 0x1a | 0x20 | 0x22..=0x28 | 0x2a | 0x2c..=0x2f => false,
-        0x21 | 0x34 | 0x35 => is_data,
-        other => other < 0x32,
-    };
     let error = (get("DFSC"), get("AET"), is("EA"));
     let rules = [
         (kind.fixed != 0 && word % 64 != kind.fixed, "the fault code 5:0 is not 0x22, a debug exception"),
@@ -165,6 +173,10 @@ fn why(form: &Form, word: u32) -> Option<&'static str> {
             "a bit is set that belongs to no field of the class",
         ),
         (is("CV") && get("COND") == 15, "CV 24 is 1 and COND 23:20 is 0b1111"),
+        (
+            !matches!((is("TA"), get("coproc")), (false, 0) | (true, 0b1010)),
+            "TA 5 and coproc 3:0 don't go together",
+        ),
         (
             matches!(class, 0x08 | 0x0c) && !is("Direction"),
             "Direction 0 is 0, and this class only reads",
@@ -188,12 +200,16 @@ fn why(form: &Form, word: u32) -> Option<&'static str> {
         (
             is_data && is("ISV")
                 && (is("SF") || get("SAS") == 3 || matches!(get("SRT"), 15 | 31)),
-            "ISV 24 is 1, and the access is none of an AArch32 guest: SF 15 is 1, SAS 23:22 is 3, or SRT names no register of its own",
+            match is_short {
+                true => "ISV 24 is 1, and SAS 23:22 is 3 or SRT 19:16 is 15",
+                false => "ISV 24 is 1, and the access is none of an AArch32 guest: SF 15 is 1, SAS 23:22 is 3, or SRT names no register of its own",
+            },
         ),
         (
             is_data && is("ISV") && (is("CM") || is("S1PTW")),
             "ISV 24 is 1, and CM 8 or S1PTW 7 is 1",
         ),
+        (is_interrupt && is("CM"), "CM 8 is 1 in an SError interrupt"),
         (
             is("SSE") && (get("SAS") > 1 || is("WnR")),
             "SSE 21 is 1, and SAS 23:22 is above 1 or WnR 6 is 1",
@@ -206,10 +222,18 @@ fn why(form: &Form, word: u32) -> Option<&'static str> {
                 && !(error.0 == 0x11 && matches!(error.1, 0..=3 | 6)),
             "AET 12:10, EA 9 and DFSC 5:0 don't go together",
         ),
-        (is_abort && !known_code, "no edition has the fault code 5:0"),
+        (is_abort && !is_code(form, class, code), "no edition has the fault code 5:0"),
         (
             is_abort && set != 0 && !(code == 0x10 && set > 1),
             "SET 12:11 is neither 0 nor, with the fault code 0x10, 2 or 3",
+        ),
+        (
+            !matches!((code, aet), (_, 0) | (0x10, 1) | (0x11, _)),
+            "bits 11:10 and the fault code 5:0 don't go together",
+        ),
+        (
+            is_interrupt && is("WnR") && aet != 0,
+            "AET 11:10 is not 0, which needs RAS, and WnR 6 is 1, which RAS makes 0",
         ),
         (
             is_data && is("ISV") && !is_mmu_fault && !matches!(code, 0x13..=0x17),
@@ -623,11 +647,56 @@ pub fn questions() -> String {
         0x9200_0022,
         0x9000_0005,
         0x9200_0008,
+        0x0600_0002,
+        0x0fe0_0201,
+        0x13e1_0c41,
+        0x13e1_4841,
+        0x07f0_0000,
+        0x23e7_c000,
+        0x33e1_0800,
+        0x1be0_000b,
+        0x1be0_0008,
+        0x1fe0_000a,
+        0x4400_0100,
+        0x4e10_0000,
+        0x8200_0405,
+        0x8200_0205,
+        0x8200_0090,
+        0x8200_0810,
+        0x9200_4005,
+        0x9200_8005,
+        0x9210_0005,
+        0x93c3_0005,
+        0x938f_0005,
+        0x939f_0005,
+        0x9383_0145,
+        0x9383_0085,
+        0x9200_0151,
+        0x9200_0119,
+        0x93a3_0005,
+        0x9363_0047,
+        0x9200_0105,
+        0x9200_0285,
+        0x9200_0091,
+        0x9200_0405,
+        0x9200_0810,
+        0x9200_0419,
+        0x9200_0451,
+        0x9200_0c51,
+        0x9200_0059,
+        0x9383_0010,
+        0x9383_0011,
+        0x9383_0015,
+        0x9383_0013,
     ];
     for hsr in shorts {
         for edition in 0..3 {
             text += &format!("short {edition} {hsr:08x}\n");
         }
+    }
+    for code in 0..64u32 {
+        text += &format!("short {} {:08x}\n", code % 2, 0x9200_0000 + code);
+        text += &format!("short {} {:08x}\n", 1 - code % 2, 0x8200_0000 + code);
     }
     text + NO_LINES
 }
@@ -639,3 +708,61 @@ const NO_LINES: &str = "x\n\n0 92000005\n0 0x00000000920005\n0 0000000092000005\
     0 0000000092000005_0000000000008abc 0000000000012340\n0 0000000092000005 0000000000008abc_0000000000012340\n\
     0 0000000092000005 000000000000 abc 0000000000012340\n0 0000000092000005 0000000000008abc 000000000001234g\n\
     g 0000000092000005 0000000000008abc 0000000000012340\n0 0000000092000005";
+
+#[cfg(test)]
+mod tests {
+    use super::*;
+    use crate::catalogue::class_of;
+    use crate::syndrome::lacks_il;
+
+    /// Words around some records of each class: up to two bits turned over.
+    fn words_around_records(form: &Form) -> Vec<u32> {
+        let mut samples = Vec::new();
+        for class in form.every_class() {
+            let mut number = 0u32;
+            form.records_of_class(class, &mut |_, word, _| {
+                number += 1;
+                if number.is_power_of_two() && number.ilog2().is_multiple_of(2) {
+                    samples.push(word);
+                }
+            });
+        }
+        let pairs = (0..26).flat_map(|first| (first..26).map(move |second| (first, second)));
+        let around = |&sample| pairs.clone().map(move |(a, b)| sample ^ (1 << a) ^ (1 << b));
+        let words = samples.iter().flat_map(around);
+        words.filter(|&word| !lacks_il(form, word)).collect()
+    }
+
+    #[test]
+    fn a_word_breaks_a_rule_exactly_where_no_edition_has_it() {
+        for form in [&LONG, &SHORT] {
+            let words = words_around_records(form);
+            let catalogue = Catalogue::of(form, words.iter().copied());
+            for word in words {
+                let rule = why(form, word);
+                let class = class_of(word);
+                assert_eq!(
+                    rule.is_none(),
+                    catalogue.find(word).is_some(),
+                    "{class:#x} {word:#x} {rule:?}"
+                );
+            }
+        }
+    }
+
+    #[test]
+    fn the_questions_have_every_rule_of_the_short_form() {
+        let mut rules: Vec<&str> = Vec::new();
+        let questions = questions();
+        for line in questions.lines() {
+            if let Some(Question::Short { edition: 0, hsr }) = question(line.as_bytes()) {
+                if word_to_look_up(&SHORT, 0, hsr.into()).is_ok() {
+                    rules.extend(why(&SHORT, hsr));
+                }
+            }
+        }
+        rules.sort_unstable();
+        rules.dedup();
+        assert_eq!(rules.len(), 20);
+    }
+}

@@ -161,6 +161,11 @@ impl Family {
         Family { kind, choices }
     }
 
+    /// Whether a record of the family has this value of a field.
+    pub fn allows(&self, name: &str, value: u32) -> bool {
+        self.choices[self.kind.index(name)].contains(&value)
+    }
+
     /// The same with these values of one field alone.
     pub fn with(mut self, name: &str, values: impl IntoIterator<Item = u32>) -> Family {
         self.choices[self.kind.index(name)] = values.into_iter().collect();

@@ -7,6 +7,7 @@
 mod questions;
 
 use crate::catalogue::Catalogue;
+use crate::explain;
 use crate::log_runs;
 use crate::long::LONG;
 use crate::random::Random;
@@ -60,14 +61,41 @@ fn number(bytes: &[u8]) -> u64 {
 /// How many bytes an entry of each section has.
 const SIZES: [usize; 4] = [1, 8, 16, 2];
 
+/// A section whose bytes run out.
+struct Cut<'a> {
+    /// The entries that come before they do.
+    entries: Vec<&'a [u8]>,
+    /// How it stands: in words, for a person.
+    told: String,
+}
+
 /// The entries of a section, each as its bytes.
-fn section<'a>(rest: &mut &'a [u8], size: usize) -> Option<Vec<&'a [u8]>> {
-    let count = number(chop(rest, 4)?);
+fn section<'a>(rest: &mut &'a [u8], size: usize) -> Result<Vec<&'a [u8]>, Cut<'a>> {
     let mut entries = Vec::new();
+    let Some(count) = chop(rest, 4).map(number) else {
+        let told = format!("{} of 4 bytes of its count", rest.len());
+        return Err(Cut { entries, told });
+    };
+    let bytes = rest.len();
     for _ in 0..count {
-        entries.push(chop(rest, size)?);
+        let Some(entry) = chop(rest, size) else {
+            let told = format!("{} of {count} entries in {bytes} bytes", entries.len());
+            return Err(Cut { entries, told });
+        };
+        entries.push(entry);
     }
-    Some(entries)
+    Ok(entries)
+}
+
+/// What sections carry, as many as there are.
+fn carried(sections: &[Vec<&[u8]>]) -> Log {
+    let entries = |at: usize| sections.get(at).into_iter().flatten();
+    Log {
+        editions: entries(0).map(|entry| entry[0]).collect(),
+        syndromes: entries(1).map(|entry| number(entry)).collect(),
+        addresses: entries(2).map(|entry| (number(&entry[..8]), number(&entry[8..]))).collect(),
+        injections: entries(3).map(|entry| (entry[0], entry[1])).collect(),
+    }
 }
 
 /// The log, and how many counts and entries were gone through.
@@ -80,22 +108,14 @@ pub fn read(bytes: &[u8]) -> Result<(Log, usize), Refusal> {
     let mut sections = Vec::new();
     for (at, size) in SIZES.into_iter().enumerate() {
         let cut = Refusal { number: 13, section: at as u8 + 1 };
-        let entries = section(&mut rest, size).ok_or(cut)?;
+        let entries = section(&mut rest, size).map_err(|_| cut)?;
         gone += 1 + entries.len();
         sections.push(entries);
     }
     if !rest.is_empty() {
         return Err(refused(14));
     }
-    let log = Log {
-        editions: sections[0].iter().map(|entry| entry[0]).collect(),
-        syndromes: sections[1].iter().map(|entry| number(entry)).collect(),
-        addresses: sections[2]
-            .iter()
-            .map(|entry| (number(&entry[..8]), number(&entry[8..])))
-            .collect(),
-        injections: sections[3].iter().map(|entry| (entry[0], entry[1])).collect(),
-    };
+    let log = carried(&sections);
     if log.syndromes.len() != log.addresses.len() {
         return Err(refused(15));
     }
@@ -144,25 +164,82 @@ fn first_line(answer: &Result<(Log, usize), Refusal>) -> String {
     }
 }
 
-/// The lines that logread writes for a log.
-pub fn shown(bytes: &[u8]) -> String {
+/// The lines that logread writes for a log, its traps explained or not.
+pub fn shown(bytes: &[u8], explained: bool) -> String {
     let answer = read(bytes);
-    let mut text = first_line(&answer);
-    let Ok((log, _)) = answer else { return text };
+    let first = first_line(&answer);
+    match answer {
+        Ok((log, _)) => first + &entries(&log, explained),
+        Err(Refusal { number: 13, section }) => {
+            let (log, told) = before_cut(bytes);
+            let entries = entries(&log, explained);
+            format!("{first}what precedes the cut:\n{entries}cut in section {section}: {told}\n")
+        }
+        Err(_) => first,
+    }
+}
+
+/// What precedes the cut of a log that is cut short, and how the section stands that is
+/// cut. The injections of such a section are left out: in an older log they are other bytes.
+fn before_cut(bytes: &[u8]) -> (Log, String) {
+    let mut rest = bytes;
+    let mut sections = Vec::new();
+    for size in SIZES {
+        match section(&mut rest, size) {
+            Ok(entries) => sections.push(entries),
+            Err(Cut { entries, told }) => {
+                sections.push(entries);
+                sections.truncate(3);
+                return (carried(&sections), told);
+            }
+        }
+    }
+    unreachable!("a log that is cut short")
+}
+
+/// The injections, by number.
+const INJECTIONS: [&str; 5] = [
+    "Undefined Instruction, PC at the instruction",
+    "Undefined Instruction, PC after the instruction",
+    "Supervisor Call",
+    "Prefetch Abort",
+    "Data Abort",
+];
+
+/// An edition as a person types it, or that a byte is none.
+fn typed(edition: u32) -> String {
+    match LONG.edition(edition) {
+        Some(_) => format!("{edition:x}"),
+        None => format!("{edition} unknown"),
+    }
+}
+
+/// The lines of what a log carries, or of what precedes its cut.
+fn entries(log: &Log, explained: bool) -> String {
+    let mut text = String::new();
     let words = log.syndromes.iter().filter_map(|&esr| u32::try_from(esr).ok());
     let catalogue = Catalogue::of(&LONG, words);
-    for edition in &log.editions {
-        let _ = writeln!(text, "edition {edition}");
+    for &edition in &log.editions {
+        let _ = writeln!(text, "edition {}", typed(edition.into()));
     }
     let seen: BTreeSet<u32> = log.editions.iter().map(|&edition| edition.into()).collect();
     for (&esr, &(far, hpfar)) in log.syndromes.iter().zip(&log.addresses) {
         let _ = writeln!(text, "trap {esr:x} {far:x} {hpfar:x}");
         for &edition in seen.iter().filter(|&&edition| LONG.edition(edition).is_some()) {
-            text += &line_in(&catalogue, edition, Registers { esr, far, hpfar });
+            let registers = Registers { esr, far, hpfar };
+            text += &line_in(&catalogue, edition, registers);
+            if explained {
+                text += &explain::trap(&catalogue, edition, registers);
+            }
         }
     }
-    for (injection, domain) in &log.injections {
-        let _ = writeln!(text, "injection {injection} domain {domain}");
+    for esr in log.syndromes.iter().skip(log.addresses.len()) {
+        let _ = writeln!(text, "syndrome {esr:x}");
+    }
+    for &(injection, domain) in &log.injections {
+        let name = INJECTIONS.get(usize::from(injection));
+        let name = name.map_or(String::new(), |name| format!(": {name}"));
+        let _ = writeln!(text, "injection {injection} domain {domain}{name}");
     }
     text
 }
@@ -185,7 +262,7 @@ fn line_in(catalogue: &Catalogue, edition: u32, registers: Registers) -> String 
             format!("refused {} {mask} {}", refusal.number, mask.count_ones())
         }
     };
-    format!("in {edition} {told}\n")
+    format!("in {} {told}\n", typed(edition))
 }
 
 /// A log of the cases of the paper and of words that editions differ in.
@@ -316,7 +393,7 @@ pub fn files() -> Vec<(&'static str, Vec<u8>)> {
     let shown_log = bytes(&log_runs::stored());
     let (stdin, stdout) = questions::files();
     vec![
-        ("logread/stdout", shown(&shown_log).into_bytes()),
+        ("logread/stdout", shown(&shown_log, false).into_bytes()),
         ("logread/stdin", shown_log),
         ("check_log/stdin", stdin),
         ("check_log/stdout", stdout),

@@ -111,6 +111,28 @@ fn refused() -> Vec<(String, Vec<u8>)> {
     logs
 }
 
+/// Every cut of a log with several entries in each section; and logs that are cut short
+/// in other ways too: counts that differ, one that the bytes would fit without, and an
+/// older log's injections.
+fn cut() -> Vec<(String, Vec<u8>)> {
+    let whole = log(vec![12, 200, 1], &TRAPS[2..5], vec![(4, 7), (77, 0), (0, 15)]);
+    let all = bytes(&whole);
+    let mut logs: Vec<(String, Vec<u8>)> = (0..all.len())
+        .map(|size| (format!("the first {size} bytes"), all[..size].to_vec()))
+        .collect();
+    let name = |what: &str| format!("cut short in section 4, with {what}");
+    let fewer = Log { syndromes: whole.syndromes[..1].to_vec(), ..whole.clone() };
+    let more = Log { addresses: whole.addresses[..1].to_vec(), ..whole.clone() };
+    for (what, log) in [("more addresses", fewer), ("more syndromes", more)] {
+        let all = bytes(&log);
+        logs.push((name(what), all[..all.len() - 1].to_vec()));
+    }
+    let older_injections =
+        (1..6).map(|count| Log { injections: vec![(2, 0); count], ..whole.clone() });
+    logs.extend(older_injections.map(|log| (name("older injections"), older(&log))));
+    logs
+}
+
 /// Injections with these first bytes, and domains up to 15 that differ from them.
 fn domains(injections: Vec<u8>) -> Vec<(u8, u8)> {
     injections.into_iter().map(|injection| (injection, (injection ^ 5) % 16)).collect()
@@ -139,8 +161,11 @@ pub fn inputs() -> Vec<(String, Vec<u8>)> {
         logs.push((format!("edition {edition}"), bytes(&one)));
     }
     logs.extend(refused());
+    logs.extend(cut());
     let hundreds = many(&mut random, 800);
-    logs.push(("hundreds of traps".into(), bytes(&log(all(), &hundreds, vec![(255, 15); 300]))));
+    let hundreds = bytes(&log(all(), &hundreds, vec![(255, 15); 300]));
+    logs.push(("hundreds of traps, cut short".into(), hundreds[..16_000].to_vec()));
+    logs.push(("hundreds of traps".into(), hundreds));
     for (traps, name) in [(0, "editions alone"), (1000, "a thousand traps")] {
         for length in [LONGEST, LONGEST + 1] {
             let name = format!("{length} bytes, {name}");
@@ -175,9 +200,9 @@ mod tests {
     #[test]
     fn no_two_editions_have_the_same_answers() {
         let answers = |edition: u8| {
-            let text = shown(&bytes(&log(vec![edition], &TRAPS, vec![])));
-            text.replace(&format!("edition {edition}\n"), "")
-                .replace(&format!("in {edition} "), "in ")
+            let text = shown(&bytes(&log(vec![edition], &TRAPS, vec![])), false);
+            text.replace(&format!("edition {edition:x}\n"), "")
+                .replace(&format!("in {edition:x} "), "in ")
         };
         let answers: BTreeSet<String> = (0..16).map(answers).collect();
         assert_eq!(answers.len(), 16);

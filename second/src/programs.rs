@@ -13,7 +13,7 @@ use crate::syndrome::{read, word_to_look_up};
 use std::env;
 use std::fs::{self, File};
 use std::io::{self, Read, Write};
-use std::path::Path;
+use std::path::{Path, PathBuf};
 use std::process::{self, Child, ChildStdin, Command, Stdio};
 use std::thread;
 use std::time::Duration;
@@ -21,39 +21,94 @@ use std::time::Duration;
 /// A program, what it must write for an input, and inputs of its own.
 struct Program {
     name: &'static str,
+    /// Its first argument.
+    option: Option<&'static str>,
     answers: fn(&[u8]) -> Vec<u8>,
     inputs: fn() -> Vec<(String, Vec<u8>)>,
+    /// How an input can be handed over to it.
+    ways: &'static [Way],
 }
 
-const PROGRAMS: [Program; 8] = [
-    Program { name: "trapread", answers: trapread, inputs: trapread_inputs },
-    Program { name: "explain", answers: explain::explain, inputs: explain_inputs },
-    Program { name: "logread", answers: logread, inputs: log_runs::inputs },
-    Program { name: WORDS.name, answers: |input| WORDS.answers(input), inputs: words_inputs },
-    Program { name: STATES.name, answers: |input| STATES.answers(input), inputs: states_inputs },
-    Program { name: A32.name, answers: |input| A32.answers(input), inputs: a32_inputs },
-    Program { name: RUNS.name, answers: |input| RUNS.answers(input), inputs: runs_inputs },
-    Program { name: ONWARD.name, answers: |input| ONWARD.answers(input), inputs: onward_inputs },
+/// What a program has that takes no argument.
+const READER: Program = Program {
+    name: "",
+    option: None,
+    answers: |_| Vec::new(),
+    inputs: Vec::new,
+    ways: &[Way::File, Way::AtOnce, Way::Few],
+};
+
+/// One that also takes a file's name.
+const LOGREAD: Program = Program {
+    name: "logread",
+    answers: logread,
+    inputs: log_runs::inputs,
+    ways: &[Way::File, Way::AtOnce, Way::Few, Way::Named],
+    ..READER
+};
+
+const PROGRAMS: [Program; 9] = [
+    Program { name: "trapread", answers: trapread, inputs: trapread_inputs, ..READER },
+    Program { name: "explain", answers: explain::explain, inputs: explain_inputs, ..READER },
+    LOGREAD,
+    Program {
+        option: Some("--explain"),
+        answers: logread_explained,
+        inputs: logread_explained_inputs,
+        ..LOGREAD
+    },
+    Program {
+        name: WORDS.name,
+        answers: |input| WORDS.answers(input),
+        inputs: words_inputs,
+        ..READER
+    },
+    Program {
+        name: STATES.name,
+        answers: |input| STATES.answers(input),
+        inputs: states_inputs,
+        ..READER
+    },
+    Program { name: A32.name, answers: |input| A32.answers(input), inputs: a32_inputs, ..READER },
+    Program {
+        name: RUNS.name,
+        answers: |input| RUNS.answers(input),
+        inputs: runs_inputs,
+        ..READER
+    },
+    Program {
+        name: ONWARD.name,
+        answers: |input| ONWARD.answers(input),
+        inputs: onward_inputs,
+        ..READER
+    },
 ];
+
+impl Program {
+    /// As it is called.
+    fn call(&self) -> String {
+        self.option.map_or(self.name.into(), |option| format!("{} {option}", self.name))
+    }
+}
 
 /// Runs the programs of a folder; true when all wrote what they must.
 pub fn run(directory: &Path) -> io::Result<bool> {
     let mut all_same = true;
     for program in &PROGRAMS {
         let path = directory.join(program.name);
+        let call = program.call();
         let inputs = (program.inputs)();
         let mut different = 0;
         for (input_name, input) in &inputs {
             let expected = (program.answers)(input);
-            for way in Way::ALL {
-                let written = feed(&path, input, way)?;
+            for &way in program.ways {
+                let written = feed(&path, program.option, input, way)?;
                 if written != expected {
                     different += 1;
                     let at = written.iter().zip(&expected).position(|(a, b)| a != b);
                     let at = at.unwrap_or(written.len().min(expected.len()));
                     println!(
-                        "{} on {input_name}, {way:?}: wrote {} bytes for {}, first other at {at}",
-                        program.name,
+                        "{call} on {input_name}, {way:?}: wrote {} bytes for {}, first other at {at}",
                         written.len(),
                         expected.len()
                     );
@@ -61,7 +116,7 @@ pub fn run(directory: &Path) -> io::Result<bool> {
             }
         }
         let verdict = if different == 0 { "same" } else { "DIFFERENT" };
-        println!("{}: {} inputs, {verdict}", program.name, inputs.len());
+        println!("{call}: {} inputs, {verdict}", inputs.len());
         all_same &= different == 0;
     }
     Ok(all_same)
@@ -69,7 +124,7 @@ pub fn run(directory: &Path) -> io::Result<bool> {
 
 /// Writes what a program must write for this program's standard input.
 pub fn answer(name: &str) -> io::Result<bool> {
-    let program = PROGRAMS.iter().find(|program| program.name == name);
+    let program = PROGRAMS.iter().find(|program| program.call() == name);
     let program = program.ok_or_else(|| io::Error::other(format!("no program {name}")))?;
     let mut input = Vec::new();
     io::stdin().read_to_end(&mut input)?;
@@ -81,7 +136,7 @@ pub fn answer(name: &str) -> io::Result<bool> {
 /// answer to its stored input.
 pub fn check(directory: &Path) -> io::Result<bool> {
     let mut all_same = true;
-    for program in &PROGRAMS {
+    for program in PROGRAMS.iter().filter(|program| program.option.is_none()) {
         let folder = directory.join(program.name);
         let input = fs::read(folder.join("stdin"))?;
         let same = fs::read(folder.join("stdout"))? == (program.answers)(&input);
@@ -101,32 +156,43 @@ enum Way {
     AtOnce,
     /// A few bytes at a time through a pipe, each after a pause.
     Few,
-}
-
-impl Way {
-    const ALL: [Way; 3] = [Way::File, Way::AtOnce, Way::Few];
+    /// As a file that the last argument names; standard input is empty.
+    Named,
 }
 
 /// What a program writes for an input. One that stops reading early has
 /// written what it has written.
-fn feed(path: &Path, input: &[u8], way: Way) -> io::Result<Vec<u8>> {
+fn feed(path: &Path, option: Option<&str>, input: &[u8], way: Way) -> io::Result<Vec<u8>> {
     let mut command = Command::new(path);
-    command.stdout(Stdio::piped());
+    command.args(option).stdout(Stdio::piped());
+    let named = file_name();
     let mut child = match way {
         Way::File => command.stdin(file_of(input)?).spawn()?,
         Way::AtOnce | Way::Few => command.stdin(Stdio::piped()).spawn()?,
+        Way::Named => {
+            fs::write(&named, input)?;
+            command.arg(&named).stdin(Stdio::null()).spawn()?
+        }
     };
     let written = hand_over(&mut child, input, way)?;
     let status = child.wait()?;
+    if matches!(way, Way::Named) {
+        fs::remove_file(&named)?;
+    }
     match status.success() {
         true => Ok(written),
         false => Err(io::Error::other(format!("{} ended with {status}", path.display()))),
     }
 }
 
+/// A name that no other process takes.
+fn file_name() -> PathBuf {
+    env::temp_dir().join(format!("second-{}", process::id()))
+}
+
 /// A file of these bytes that no folder names any more.
 fn file_of(input: &[u8]) -> io::Result<File> {
-    let path = env::temp_dir().join(format!("second-{}", process::id()));
+    let path = file_name();
     fs::write(&path, input)?;
     let file = File::open(&path)?;
     fs::remove_file(&path)?;
@@ -142,7 +208,7 @@ fn hand_over(child: &mut Child, input: &[u8], way: Way) -> io::Result<Vec<u8>> {
     let mut written = Vec::new();
     let write = move |mut pipe: ChildStdin| match way {
         Way::Few => write_few(&mut pipe, input, id),
-        Way::File | Way::AtOnce => pipe.write_all(input),
+        Way::File | Way::AtOnce | Way::Named => pipe.write_all(input),
     };
     thread::scope(|scope| {
         let writer = scope.spawn(move || stdin.map_or(Ok(()), write));
@@ -220,7 +286,17 @@ fn trapread(input: &[u8]) -> Vec<u8> {
 
 /// What the log reader writes for a log.
 fn logread(input: &[u8]) -> Vec<u8> {
-    log::shown(input).into_bytes()
+    log::shown(input, false).into_bytes()
+}
+
+/// What it writes where it is asked to explain.
+fn logread_explained(input: &[u8]) -> Vec<u8> {
+    log::shown(input, true).into_bytes()
+}
+
+/// The shorter of its logs: a trap may be explained in sixteen editions, each in twenty lines.
+fn logread_explained_inputs() -> Vec<(String, Vec<u8>)> {
+    log_runs::inputs().into_iter().filter(|(_, log)| log.len() < 4096).collect()
 }
 
 /// The paper's own lines, inputs that end in every way, and long ones.

@@ -5,18 +5,19 @@ use mathlib.Core.List.{List, [], _++_}
 use lib.Dec.{eqb}
 use Rattle.edition.specs.Judge.{refusalNumber}
 use Rattle.edition.specs.declared.Refusal.{Refusal}
+use Rattle.reason.specs.Reason.{whyOf}
 use Rattle.record_text.specs.Inner.{wordText}
 use Rattle.refusal_text.specs.Refusal.{refusalText}
+use Rattle.refusal_text.specs.Why.{whyText}
 use Rattle.syndrome.specs.declared.answer.Read.{Read}
 use Rattle.text.specs.Ascii.{ascii}
 use Rattle.trap.specs.declared.Answer.{Answer}
 use Rattle.trap_refusal.specs.declared.TrapRefusal.{TrapRefusal}
-use Rattle.explain_text.specs.Word.{whyText}
 use Rattle.explain_text.specs.Trap.{addressesText, hpfarText}
 
 abbrev pub othersLines : ℕ → Refusal → List ℕ
 othersLines w refusal =
-    cond (eqb (refusalNumber refusal) 6) (wordText w) (cond (eqb (refusalNumber refusal) 5) (whyText w) [])
+    cond (eqb (refusalNumber refusal) 6) (wordText w) (cond (eqb (refusalNumber refusal) 5) (whyText (whyOf w)) [])
 
 abbrev pub refusedLines : ℕ → Refusal → List ℕ
 refusedLines w refusal = refusalText false refusal ++ othersLines w refusal

@@ -6,28 +6,23 @@ use mathlib.Core.List.{List, [], _++_}
 use Rattle.edition.specs.declared.Refusal.{Refusal}
 use Rattle.edition.specs.declared.Refusal.the-variants.{UnknownEdition, UpperHalf, UnknownClass, ShortInstruction, NoEdition}
 use Rattle.edition.specs.declared.Refusal.the-variants.{OtherEditions}
-use Rattle.names.specs.Name.{meaningOf}
-use Rattle.names.specs.Value.{reasons}
 use Rattle.reason.specs.Reason.{whyOf}
 use Rattle.record.specs.Split.{recordAt}
 use Rattle.record.specs.declared.origin.Origin.{Origin}
 use Rattle.record.specs.declared.kinds.Esr.{Esr}
 use Rattle.record_text.specs.Text.{recordText}
 use Rattle.refusal_text.specs.Refusal.{refusalText}
+use Rattle.refusal_text.specs.Why.{whyText}
 use Rattle.syndrome.specs.Reading.{readOf}
 use Rattle.syndrome.specs.declared.answer.Read.{Read}
 use Rattle.text.specs.Ascii.{ascii}
-
--- the first rule that a word breaks
-abbrev pub whyText : ℕ → List ℕ
-whyText w = ascii "why" ++ meaningOf reasons (whyOf w) ++ ascii "\n"
 
 abbrev pub othersText : ℕ → Refusal → List ℕ
 othersText w UnknownEdition = []
 othersText w UpperHalf = []
 othersText w UnknownClass = []
 othersText w ShortInstruction = []
-othersText w NoEdition = whyText w
+othersText w NoEdition = whyText (whyOf w)
 othersText w (OtherEditions mask count) = recordText (recordAt w)
 
 abbrev pub refusedText : ℕ → Refusal → List ℕ

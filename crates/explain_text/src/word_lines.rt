@@ -3,7 +3,7 @@ ghost use mathlib.Core.List.{_++_};
 ghost use Rattle.text.specs.Append.{Appends};
 ghost use Rattle.text.specs.Ascii.{ascii};
 ghost use Rattle.record_text.specs.Inner.{wordText};
-ghost use Rattle.explain_text.specs.Word.{whyText, wordSaid};
+ghost use Rattle.explain_text.specs.Word.{wordSaid};
 ghost use Rattle.explain_text.specs.Inner.{othersLines, refusedLines, readLines};
 use edition::Refusal;
 use record::Esr;
@@ -18,18 +18,6 @@ pub(crate) fn taken(out: &mut [u8], at: usize, esr: Esr) -> usize
     record_text::word_lines(out, word, esr)
 }
 
-// The list of reasons, by its number in crate `names`.
-const REASONS: u32 = 31;
-
-// The first rule that a word breaks.
-fn why_line(out: &mut [u8], at: usize, esr: Esr) -> usize
-    ensures { λ end. ⌜ Appends (whyText (esr .0)) (now (out .entry)) at (now (out .exit)) end ⌝ }
-{
-    let word = text::append(out, at, b"why");
-    let rule = names::meaning(out, word, REASONS, reason::why(esr) as u64);
-    text::append(out, rule, b"\n")
-}
-
 // The fields of a word that other editions have, and the rule that one breaks which none has.
 fn others(out: &mut [u8], at: usize, esr: Esr, refusal: Refusal) -> usize
     ensures { λ end. ⌜ Appends (othersLines (esr .0) refusal) (now (out .entry)) at (now (out .exit)) end ⌝ }
@@ -39,7 +27,7 @@ fn others(out: &mut [u8], at: usize, esr: Esr, refusal: Refusal) -> usize
         return record_text::word_lines(out, at, esr);
     }
     if number == 5 {
-        return why_line(out, at, esr);
+        return refusal_text::why_line(out, at, reason::why(esr));
     }
     at
 }

@@ -14,7 +14,10 @@ pub use log_section::Entry;
 pub use log_section::Look;
 pub use log_section::Place;
 pub use log_section::Section;
+pub use log_section::entry_at;
+pub use log_section::front;
 pub use log_section::look_at;
+pub use log_section::size_of;
 pub use log_section::skip;
 pub use sections::LAST_DOMAIN;
 

@@ -1,52 +1,64 @@
--- What is shown of a log, by the number of its reader's answer: the entries that the reader gives, or none.
+-- What is shown of a log: every entry of one that was accepted, of one that is cut short those that stand whole, and none of another.
 -- Assumes nothing.
 use mathlib.Core.Path.{_≡_, refl, sym, ap, _∙_}
-use mathlib.Core.Bool.{Bool, true, false}
+use mathlib.Core.Bool.{Bool, true, false, cond}
 use mathlib.Core.List.{List}
-use Prim.Native.Nat.{ℕ, zero, suc, _+_, _≤_, _<_}
-use native.Mathlib.Decide.{decLt}
+use Prim.Native.Nat.{ℕ, zero, suc, _+_, _-_, _≤_, _<_}
 use native.Mathlib.Omega.{arith}
-use borrow.Author.Tests.{eq-eqb, ne-eqb, eqb-true, eqb-false}
+use borrow.Author.Tests.{eq-eqb, ne-eqb, lt-ltb}
 use lib.Dec.{eqb}
-use lib.ListN.{length, getD}
+use lib.ListN.{length}
 use Rattle.address.specs.declared.Far.{Far}
 use Rattle.address.specs.declared.Hpfar.{Hpfar}
-use Rattle.log_section.specs.Section.{injectionSize, sizes, endOf, restAfter, countAfter}
-use Rattle.log_section.specs.Log.{byteIn, wordIn, pairIn, injectionIn, bodyAfter, entriesOf}
-use Rattle.log.specs.Answer.{numberOf, goneIn, readOf}
+use Rattle.log_section.specs.Log.{entriesOf}
+use Rattle.log.specs.Answer.{numberOf, readOf}
 use Rattle.log_section.specs.Look.{entryGiven}
-use Rattle.log.specs.declared.answer.Read.{Read}
 use Rattle.log.specs.declared.answer.Read.the-variants.{Accepted, TooLong, CutShort, LeftOver, Unequal, WideDomain}
-use Rattle.log_section.specs.declared.section.Section.{Section}
 use Rattle.log_section.specs.declared.entry.Entry.{Entry}
-use Rattle.log_section.specs.declared.entry.Look.{Look}
-use Rattle.log_section.proofs.Codec.{entries-count}
-use Rattle.log.proofs.RoundTrip.{accepts, gone-bound, entries-agree}
 use Rattle.record.specs.declared.kinds.Esr.{Esr}
-use Rattle.log_reader.specs.Reader.{lookIn}
-use Rattle.log_reader.proofs.Gives.{reader-gives, reader-has-none}
-use Rattle.log_pieces.specs.Text.{nothing, shown}
-use Rattle.log_pieces.specs.Inner.{countIn}
-
-accepted : (a : Read) → numberOf a ≡ 0 → a ≡ Accepted (goneIn a)
-accepted (Accepted gone) z = refl
-accepted TooLong z = absurd (omega arith)
-accepted (CutShort section) z = absurd (omega arith)
-accepted LeftOver z = absurd (omega arith)
-accepted Unequal z = absurd (omega arith)
-accepted WideDomain z = absurd (omega arith)
+use Rattle.log_cut.specs.Whole.{wholeEntries, countIn, wholeCount, wholeEntry}
+use Rattle.log_cut.proofs.Accepted.{accepted-whole, few-whole}
+use Rattle.log_pieces.specs.Text.{isShown, nothing, shown}
 
 module _ (s : List ℕ) where
-  abbrev Taken : Type 0
-  Taken = numberOf (readOf s) ≡ 0
-
-  shown-taken : Taken → shown s ≡ entriesOf s
+  shown-whole : isShown (readOf s) ≡ true → shown s ≡ wholeEntries s
   unfolding shown
-  shown-taken z = simp (eq-eqb (numberOf (readOf s)) 0 z)
+  shown-whole z = ap (λ (t : Bool). cond t (wholeEntries s) nothing) z
 
-  shown-refused : (Taken → ⊥) → shown s ≡ nothing
+  shown-none : isShown (readOf s) ≡ false → shown s ≡ nothing
   unfolding shown
-  shown-refused r = simp (ne-eqb (numberOf (readOf s)) 0 r)
+  shown-none z = ap (λ (t : Bool). cond t (wholeEntries s) nothing) z
+
+  -- SHOWN: by how the log was read
+  pub accepted-shown : {gone : ℕ} → readOf s ≡ Accepted gone → shown s ≡ entriesOf s
+  accepted-shown e = shown-whole (ap isShown e) ∙ accepted-whole s e
+
+  pub cut-shown : {section : ℕ} → readOf s ≡ CutShort section → shown s ≡ wholeEntries s
+  cut-shown e = shown-whole (ap isShown e)
+
+  pub left-over-not-shown : readOf s ≡ LeftOver → shown s ≡ nothing
+  left-over-not-shown e = shown-none (ap isShown e)
+
+  pub unequal-not-shown : readOf s ≡ Unequal → shown s ≡ nothing
+  unequal-not-shown e = shown-none (ap isShown e)
+
+  pub wide-domain-not-shown : readOf s ≡ WideDomain → shown s ≡ nothing
+  wide-domain-not-shown e = shown-none (ap isShown e)
+
+  pub too-long-not-shown : readOf s ≡ TooLong → shown s ≡ nothing
+  too-long-not-shown e = shown-none (ap isShown e)
+
+  -- by the answer's number
+  module _ {n : ℕ} (is : n ≡ numberOf (readOf s)) where
+    pub shown-accepted : n ≡ 0 → true ≡ isShown (readOf s)
+    shown-accepted z = sym (simp (eq-eqb (numberOf (readOf s)) 0 (sym is ∙ z)))
+
+    pub shown-by-thirteen : (n ≡ 0 → ⊥) → eqb n 13 ≡ isShown (readOf s)
+    shown-by-thirteen o = rw is (sym (simp (ne-eqb (numberOf (readOf s)) 0 (λ z. o (is ∙ z)))))
+
+  -- how many there are of each section
+  pub count-shown : (n : ℕ) → n < 4 → isShown (readOf s) ≡ true → wholeCount s n ≡ countIn (shown s) n
+  count-shown n h z = simp (lt-ltb n 4 h) (rw (shown-whole z))
 
   count-nothing : (n : ℕ) → countIn nothing n ≡ 0
   count-nothing zero = refl
@@ -54,66 +66,29 @@ module _ (s : List ℕ) where
   count-nothing (suc (suc zero)) = refl
   count-nothing (suc (suc (suc n))) = refl
 
-  -- a refused log has no entry
-  pub count-refused : (n : ℕ) → (Taken → ⊥) → 0 ≡ countIn (shown s) n
-  count-refused n r = rw (shown-refused r) (sym (count-nothing n))
+  pub count-none : (n : ℕ) → isShown (readOf s) ≡ false → 0 ≡ countIn (shown s) n
+  count-none n z = rw (shown-none z) (sym (count-nothing n))
 
-  -- what holds of an accepted log, and of nothing, holds of what is shown
-  by-number : {P : Type 0} → (Taken → P) → ((Taken → ⊥) → P) → P
-  by-number {P} taken refused = go (eqb (numberOf (readOf s)) 0) refl
+  either : {P : Type 0} → (isShown (readOf s) ≡ true → P) → (isShown (readOf s) ≡ false → P) → P
+  either {P} are not-any = go (isShown (readOf s)) refl
     where
-      go : (t : Bool) → eqb (numberOf (readOf s)) 0 ≡ t → P
-      go true e = taken (eqb-true (numberOf (readOf s)) 0 e)
-      go false e = refused (eqb-false (numberOf (readOf s)) 0 e)
+      go : (t : Bool) → isShown (readOf s) ≡ t → P
+      go true e = are e
+      go false e = not-any e
 
-  pub shown-agree : length (shown s .syndromes) ≡ length (shown s .addresses)
-  shown-agree = by-number (λ z. rw (shown-taken z) (entries-agree s (accepted (readOf s) z))) (λ r. rw (shown-refused r))
-
-  counted : (n : ℕ) → n < 4 → countIn (entriesOf s) n ≡ countAfter s n
-  unfolding entriesOf
-  counted zero h = entries-count 1 byteIn (countAfter s 0) (bodyAfter s 0)
-  counted (suc zero) h = entries-count 8 wordIn (countAfter s 1) (bodyAfter s 1)
-  counted (suc (suc zero)) h = entries-count 16 pairIn (countAfter s 2) (bodyAfter s 2)
-  counted (suc (suc (suc zero))) h = entries-count injectionSize injectionIn (countAfter s 3) (bodyAfter s 3)
-  counted (suc (suc (suc (suc n)))) h = absurd (omega arith)
-
-  -- the section that the reader finds has the count of what is shown
-  section-looked : (n : ℕ) → n < 4 → Taken → lookIn s n 0 .section
-      ≡ Section.Whole (countIn (shown s) n) (endOf (getD sizes n 0) (restAfter s n))
-  section-looked n h z =
-      rw (shown-taken z, counted n h) (go (decLt 0 (countAfter s n)))
-    where
-      e : readOf s ≡ Accepted (goneIn (readOf s))
-      e = accepted (readOf s) z
-
-      go : Dec (0 < countAfter s n) → lookIn s n 0 .section ≡ Section.Whole (countAfter s n) (endOf (getD sizes n 0) (restAfter s n))
-      go (yes some) = ap (λ (l : Look). l .section) (reader-gives s e n 0 h some)
-      go (no none) = ap (λ (l : Look). l .section) (reader-has-none s e n 0 h (omega arith))
-
-  pub count-whole : (n : ℕ) {count end : ℕ} → n < 4 → Taken → lookIn s n 0 .section ≡ Section.Whole count end → count ≡ countIn (shown s) n
-  count-whole n h z e = let f = section-looked n h z in cc
-
-  pub count-none : (n : ℕ) → n < 4 → Taken → lookIn s n 0 .section ≡ Section.None → 0 ≡ countIn (shown s) n
-  count-none n h z e = let f = section-looked n h z in let o : _≡_ {A = ℕ} 0 1 = cc in absurd (omega arith)
-
-  -- the entry that the reader gives is the one that is shown
-  pub entry-shown : (n i : ℕ) → n < 4 → i < countIn (shown s) n → lookIn s n i .entry ≡ entryGiven (shown s) n i
+  -- the entry that stands whole is the one that is shown
+  pub entry-shown : (n i : ℕ) → n < 4 → i < countIn (shown s) n → wholeEntry s n i ≡ entryGiven (shown s) n i
   entry-shown n i h k =
-      by-number
+      either
       (λ z.
-      let within : i < countAfter s n = rw (shown-taken z, counted n h) at k in
-      rw (shown-taken z) (ap (λ (l : Look). l .entry) (reader-gives s (accepted (readOf s) z) n i h within)))
-      (λ r. absurd (omega (arith, count-refused n r)))
+      let within : i < wholeCount s n = omega (arith, count-shown n h z) in
+      simp (lt-ltb i (wholeCount s n) within) (rw (shown-whole z)))
+      (λ z. absurd (omega (arith, count-none n z)))
 
-  -- a log has no more entries than bytes
-  pub few-shown : 1 + countIn (shown s) 0 + countIn (shown s) 1 + countIn (shown s) 3 ≤ 65536
+  -- a log has no more entries than bytes behind its first count
+  pub few-shown : countIn (shown s) 0 + countIn (shown s) 1 + countIn (shown s) 3 ≤ length s - 4
   few-shown =
-      by-number
-      (λ z.
-      let e = accepted (readOf s) z in
-      rw (shown-taken z)
-      (omega (arith, counted 0 (omega arith), counted 1 (omega arith), counted 3 (omega arith), accepts s e .short, gone-bound s e)))
-      (λ r. omega (arith, count-refused 0 r, count-refused 1 r, count-refused 3 r))
+      either (λ z. rw (shown-whole z) (few-whole s)) (λ z. omega (arith, count-none 0 z, count-none 1 z, count-none 3 z))
 
 -- two entries of one kind that are the same have the same words
 pub same-edition : {x : Entry} {a b : ℕ} → x ≡ Entry.Edition a → x ≡ Entry.Edition b → a ≡ b

@@ -1,29 +1,34 @@
-// What is shown of a log: its entries where it was accepted, and none where it was refused. A section is named by how many lie before it.
+// What is shown of a log: the entries that stand whole in one that was accepted or is cut short, and none of another that is refused. A
+// section is named by how many lie before it.
 ghost use Prim.Native.Nat.{_<_};
 ghost use mathlib.Core.Path.{_≡_};
 ghost use lib.ListN.{length, getD};
+ghost use Rattle.log.specs.Answer.{readOf};
 ghost use Rattle.log_section.specs.Look.{entryGiven};
+ghost use Rattle.log_cut.specs.Whole.{countIn};
 ghost use Rattle.bits.specs.Among.{among};
-ghost use Rattle.log_pieces.specs.Text.{shown, seenMask};
-ghost use Rattle.log_pieces.specs.Inner.{countIn};
+ghost use Rattle.log_pieces.specs.Text.{isShown, shown, seenMask};
 use log::Entry;
-use log::Section;
+
+fn is_shown(log: &[u8]) -> bool
+    ensures { λ yes. ⌜ yes ≡ isShown (readOf (now (log .entry))) ⌝ }
+{
+    let number = log::number_of(log_reader::read_in(log));
+    if number == 0 {
+        return true;
+    }
+    number == 13
+}
 
 // How many entries of a section are shown.
 pub(crate) fn count(log: &[u8], passed: u32) -> usize
     requires { ⌜ passed < 4 ⌝ }
     ensures { λ n. ⌜ n ≡ countIn (shown (now (log .entry))) passed ⌝ }
 {
-    let answer = log_reader::read_in(log);
-    if log::number_of(answer) != 0 {
-        return 0;
+    if is_shown(log) {
+        return log_cut::count(log, passed);
     }
-    let found = log_reader::look_in(log, passed, 0);
-    let section = found.section;
-    match section {
-        Section::Whole { count, end: _ } => count,
-        Section::None => 0,
-    }
+    0
 }
 
 // Entry i of a section.
@@ -31,8 +36,7 @@ pub(crate) fn entry(log: &[u8], passed: u32, i: usize) -> Entry
     requires { ⌜ (passed < 4) × (i < countIn (shown (now log)) passed) ⌝ }
     ensures { λ e. ⌜ e ≡ entryGiven (shown (now (log .entry))) passed i ⌝ }
 {
-    let found = log_reader::look_in(log, passed, i);
-    found.entry
+    log_cut::entry(log, passed, i)
 }
 
 // Edition i of those seen.

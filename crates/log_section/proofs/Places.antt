@@ -10,7 +10,7 @@ use borrow.Author.Tests.{lt-ltb, le-ltb, le-leb, lt-leb, ltb-true, leb-true}
 use lib.Dec.{leb, ltb}
 use lib.ListN.{length, drop, getD, length-drop}
 use Rattle.log_section.specs.Section.{sizes, countOf, endOf, sectionOf}
-use Rattle.log_section.specs.Look.{sectionAt, movedPast, skipFrom, entryIn, entryOf, lookAt}
+use Rattle.log_section.specs.Look.{sectionAt, movedPast, skipFrom, entryIn, entryAt, entryOf, lookAt}
 use Rattle.log_section.specs.declared.section.Section.{Section}
 use Rattle.log_section.specs.declared.entry.Place.{Place}
 use Rattle.log_section.specs.declared.entry.Entry.{Entry}
@@ -27,6 +27,17 @@ place-out s passed at h k = sym (simp (lt-ltb passed 4 h, lt-leb at (length s) k
 pub place-in : (s : List ℕ) (passed at : ℕ) → passed < 4 → at ≤ length s
     → sectionOf (getD sizes passed 0) (drop at s) ≡ sectionAt s passed at
 place-in s passed at h k = sym (simp (lt-ltb passed 4 h, le-leb at (length s) k))
+
+-- and so for an entry by itself
+module _ (s : List ℕ) (passed at : ℕ) where
+  pub no-section : 4 ≤ passed → Entry.None ≡ entryAt s passed at
+  no-section h = sym (simp (le-ltb passed 4 h))
+
+  pub no-entry : passed < 4 → length s < at + getD sizes passed 0 → Entry.None ≡ entryAt s passed at
+  no-entry h k = sym (simp (lt-ltb passed 4 h, lt-leb (at + getD sizes passed 0) (length s) k))
+
+  pub entry-here : passed < 4 → at + getD sizes passed 0 ≤ length s → entryIn passed (drop at s) ≡ entryAt s passed at
+  entry-here h k = sym (simp (lt-ltb passed 4 h, le-leb (at + getD sizes passed 0) (length s) k))
 
 -- what a section that stands at a place tells of it
 pub record Standing (s : List ℕ) (passed at count end : ℕ) : Type 0 where

@@ -32,6 +32,10 @@ entryIn (suc zero) s = Entry.Syndrome (record { 0 = wordIn s })
 entryIn (suc (suc zero)) s = Entry.Address (record { 0 = wordIn s }) (record { 0 = wordIn (drop 8 s) })
 entryIn (suc (suc (suc n))) s = Entry.Injection (injectionByte (injectionIn s)) (domainOf (injectionIn s))
 
+-- the entry whose bytes stand at a place
+abbrev pub entryAt : List ℕ → ℕ → ℕ → Entry
+entryAt s passed at = cond (ltb passed 4 && leb (at + getD sizes passed 0) (length s)) (entryIn passed (drop at s)) Entry.None
+
 -- entry i of a section, or that there is none
 abbrev pub entryOf : List ℕ → ℕ → ℕ → ℕ → Section → Entry
 entryOf s passed at i (Section.Whole count end) =

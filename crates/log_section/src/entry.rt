@@ -6,7 +6,7 @@ ghost use mathlib.Core.Path.{_≡_};
 ghost use Prim.Native.Nat.{_+_, _≤_, _<_};
 ghost use lib.ListN.{length, drop, getD};
 ghost use Rattle.log_section.specs.Section.{sizes};
-ghost use Rattle.log_section.specs.Look.{sectionAt, skipFrom, entryIn, lookAt};
+ghost use Rattle.log_section.specs.Look.{sectionAt, skipFrom, entryIn, entryAt, lookAt};
 use super::number::eight;
 use super::section::ADDRESS;
 use super::section::EDITION;
@@ -38,7 +38,8 @@ pub struct Look {
     pub entry: Entry,
 }
 
-fn size_of(passed: u32) -> u32
+// The size of an entry, by the number of sections before its own.
+pub fn size_of(passed: u32) -> u32
     ensures { λ n. ⌜ n ≡ getD sizes passed 0 ⌝ }
 {
     match passed {
@@ -104,6 +105,23 @@ fn entry_in(log: &[u8], passed: u32, at: usize) -> Entry
             domain: log[at + 1],
         },
     }
+}
+
+// The entry at a place, whether or not its section is whole, and none where the log ends before it does.
+pub fn entry_at(log: &[u8], passed: u32, at: usize) -> Entry
+    ensures { λ e. ⌜ e ≡ entryAt (now (log .entry)) passed at ⌝ }
+{
+    let end = log.len();
+    if 4 <= passed {
+        return Entry::None;
+    }
+    if end < at {
+        return Entry::None;
+    }
+    if end - at < (size_of(passed) as usize) {
+        return Entry::None;
+    }
+    entry_in(log, passed, at)
 }
 
 // The section at a place, and its entry i.

@@ -1,12 +1,16 @@
 -- Requests C-14 and C-21: a log as lines of text, for the fitter. The first line tells how the log was read.
 use Prim.Native.Nat.{ℕ}
+use mathlib.Core.Bool.{cond}
 use mathlib.Core.List.{List, [], _++_}
 use Rattle.address.specs.declared.Far.{Far}
 use Rattle.address.specs.declared.Hpfar.{Hpfar}
+use Rattle.edition.specs.Feature.{isEdition}
 use Rattle.log.specs.Answer.{numberOf, sectionIn}
 use Rattle.log.specs.declared.answer.Read.{Read}
 use Rattle.log.specs.declared.answer.Read.the-variants.{Accepted, TooLong, CutShort, LeftOver, Unequal, WideDomain}
 use Rattle.log_section.specs.declared.entry.Entry.{Entry}
+use Rattle.names.specs.Name.{meaningOf}
+use Rattle.names.specs.Value.{injections}
 use Rattle.record.specs.declared.kinds.Esr.{Esr}
 use Rattle.text.specs.Ascii.{ascii}
 use Rattle.text.specs.Numeral.{decimalText, hexText}
@@ -17,6 +21,10 @@ decimalField n = ascii " " ++ decimalText n
 
 abbrev pub hexField : ℕ → List ℕ
 hexField n = ascii " " ++ hexText n
+
+-- an edition as it is typed, one hexadecimal digit; a number that is no edition's is decimal, and said to be unknown
+abbrev pub editionField : ℕ → List ℕ
+editionField n = cond (isEdition n) (hexField n) (decimalField n ++ ascii " unknown")
 
 -- a refusal of the log: its number and its section
 abbrev pub refusedText : Read → List ℕ
@@ -33,11 +41,12 @@ readText WideDomain = refusedText WideDomain
 
 -- the entries
 abbrev pub editionText : ℕ → List ℕ
-editionText edition = ascii "edition" ++ decimalField edition ++ ascii "\n"
+editionText edition = ascii "edition" ++ editionField edition ++ ascii "\n"
 
--- an injection with its domain
+-- an injection with its domain, and its name where its byte is the number of one
 abbrev pub injectionText : ℕ → ℕ → List ℕ
-injectionText injection domain = ascii "injection" ++ decimalField injection ++ ascii " domain" ++ decimalField domain ++ ascii "\n"
+injectionText injection domain =
+    ascii "injection" ++ decimalField injection ++ ascii " domain" ++ decimalField domain ++ meaningOf injections injection ++ ascii "\n"
 
 -- an entry that has a line of its own; a trap's registers stand in two entries
 abbrev pub entryText : Entry → List ℕ

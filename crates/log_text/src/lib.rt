@@ -3,7 +3,7 @@ ghost use mathlib.Core.List.{_++_};
 ghost use Rattle.text.specs.Ascii.{ascii};
 ghost use Rattle.text.specs.Append.{Appends};
 ghost use Rattle.log_text.specs.Lines.{decimalField, hexField, refusedText, readText, editionText, injectionText, entryText};
-ghost use Rattle.log_text.specs.Lines.{wordsText};
+ghost use Rattle.log_text.specs.Lines.{editionField, wordsText};
 use address::Far;
 use address::Hpfar;
 use log::Entry;
@@ -23,6 +23,17 @@ pub fn hex_field(out: &mut [u8], at: usize, n: u64) -> usize
 {
     let space = text::append(out, at, b" ");
     text::append_hex(out, space, n)
+}
+
+// Appends a space and an edition as it is typed. A number that is no edition's is said to be unknown.
+pub fn edition_field(out: &mut [u8], at: usize, edition: u32) -> usize
+    ensures { λ end. ⌜ Appends (editionField edition) (now (out .entry)) at (now (out .exit)) end ⌝ }
+{
+    if edition < edition::EDITIONS {
+        return hex_field(out, at, edition as u64);
+    }
+    let number = decimal_field(out, at, edition as u64);
+    text::append(out, number, b" unknown")
 }
 
 // A line of a word and a number.
@@ -60,8 +71,13 @@ pub fn read_line(out: &mut [u8], at: usize, answer: Read) -> usize
 pub fn edition_line(out: &mut [u8], at: usize, edition: u8) -> usize
     ensures { λ end. ⌜ Appends (editionText edition) (now (out .entry)) at (now (out .exit)) end ⌝ }
 {
-    numbered(out, at, b"edition", edition as u64)
+    let word = text::append(out, at, b"edition");
+    let number = edition_field(out, word, edition as u32);
+    text::append(out, number, b"\n")
 }
+
+// The list of injections, by its number in crate `names`.
+const INJECTIONS: u32 = 32;
 
 pub fn injection_line(out: &mut [u8], at: usize, injection: u8, domain: u8) -> usize
     ensures { λ end. ⌜ Appends (injectionText injection domain) (now (out .entry)) at (now (out .exit)) end ⌝ }
@@ -70,7 +86,8 @@ pub fn injection_line(out: &mut [u8], at: usize, injection: u8, domain: u8) -> u
     let second = decimal_field(out, first, injection as u64);
     let third = text::append(out, second, b" domain");
     let fourth = decimal_field(out, third, domain as u64);
-    text::append(out, fourth, b"\n")
+    let name = names::meaning(out, fourth, INJECTIONS, injection as u64);
+    text::append(out, name, b"\n")
 }
 
 // An entry that has a line of its own. A trap's registers stand in two entries: `words_line` shows them together.

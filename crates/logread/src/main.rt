@@ -18,33 +18,33 @@ fn read_log(file: i32, space: &mut [u8]) -> usize
 }
 
 // Puts piece i of a log's text into a buffer that has room for any piece.
-fn piece(out: &mut [u8], log: &[u8], seen: u32, i: usize) -> usize
-    requires { ⌜ 4096 ≤ length (now out) ⌝ }
+fn piece(out: &mut [u8], log: &[u8], seen: u32, explained: bool, i: usize) -> usize
+    requires { ⌜ 65536 ≤ length (now out) ⌝ }
     requires { ⌜ seen ≡ seenMask (shown (now log)) ⌝ }
-    ensures { λ end. ⌜ take end (now (out .exit)) ≡ getD (piecesOf (now (log .entry))) i [] ⌝ }
+    ensures { λ end. ⌜ take end (now (out .exit)) ≡ getD (piecesOf explained (now (log .entry))) i [] ⌝ }
     ensures { λ end. ⌜ Counts end (now (out .exit)) ⌝ }
 {
-    log_pieces::piece(out, 0, log, seen, i)
+    log_pieces::piece(out, 0, log, seen, explained, i)
 }
 
 // Writes piece i. No contract can say what was written.
-fn write_piece(out: &mut [u8], log: &[u8], seen: u32, i: usize) -> bool
-    requires { ⌜ 4096 ≤ length (now out) ⌝ }
+fn write_piece(out: &mut [u8], log: &[u8], seen: u32, explained: bool, i: usize) -> bool
+    requires { ⌜ 65536 ≤ length (now out) ⌝ }
     requires { ⌜ seen ≡ seenMask (shown (now log)) ⌝ }
 {
-    let end = piece(out, log, seen, i);
+    let end = piece(out, log, seen, explained, i);
     io::write_all(STDOUT_FILENO, &out[..end])
 }
 
 // Writes a log's text. A write that fails ends it.
-fn write_text(out: &mut [u8], log: &[u8])
-    requires { ⌜ 4096 ≤ length (now out) ⌝ }
+fn write_text(out: &mut [u8], log: &[u8], explained: bool)
+    requires { ⌜ 65536 ≤ length (now out) ⌝ }
 {
     let seen = log_pieces::known_editions(log);
     let n = log_pieces::count(log);
     let mut i = 0;
     while i < n {
-        if !write_piece(out, log, seen, i) {
+        if !write_piece(out, log, seen, explained, i) {
             break;
         }
         i += 1;
@@ -52,19 +52,21 @@ fn write_text(out: &mut [u8], log: &[u8])
 }
 
 // Shows the log in a file that is open for reading.
-fn show(file: i32) {
+fn show(file: i32, explained: bool) {
     let mut space = [0u8; 65537];
     let n = read_log(file, &mut space);
-    let mut out = io::buffer();
-    write_text(&mut out, &space[..n]);
+    let mut out = io::large_buffer();
+    write_text(&mut out, &space[..n], explained);
 }
 
-const HELP: [u8; 238] = *b"\
+const HELP: [u8; 396] = *b"\
     Shows a trap log: how it was read, the editions seen, each trap with its registers and what\n\
-    each known edition among those seen makes of it, and the injections.\n\
+    each known edition among those seen makes of it, and the injections; of a log that is cut\n\
+    short what precedes the cut.\n\
     \n\
-    logread FILE    the log in a file\n\
-    logread         the log on standard input\n\
+    logread FILE              the log in a file\n\
+    logread                   the log on standard input\n\
+    logread --explain [FILE]  the same, and after each answer what explain says of the trap\n\
     ";
 
 fn help() {
@@ -72,27 +74,38 @@ fn help() {
     io::write_all(STDOUT_FILENO, &text);
 }
 
-// Shows the log in the file that the first argument names, or says why it can't be opened.
-fn show_named(name: &[u8]) {
-    if check::same(name, b"--help") {
-        help();
-        return;
-    }
+// Shows the log in the file that an argument names, or says why it can't be opened.
+fn show_named(name: &[u8], explained: bool) {
     let file = os::open_read(name);
     if file < 0 {
         os::fail(name);
         return;
     }
-    show(file);
+    show(file, explained);
     libc::close(file);
 }
 
+// Shows the log that the arguments from one on name: the file, or standard input where there is none.
+fn show_from(i: usize, explained: bool) {
+    if os::arg_count() <= i {
+        show(STDIN_FILENO, explained);
+        return;
+    }
+    let mut name = io::buffer();
+    let n = os::arg(i, &mut name);
+    show_named(&name[..n], explained);
+}
+
 fn main() {
-    if os::arg_count() < 2 {
-        show(STDIN_FILENO);
+    let mut first = io::buffer();
+    let n = os::arg(1, &mut first);
+    if check::same(&first[..n], b"--help") {
+        help();
     } else {
-        let mut name = io::buffer();
-        let n = os::arg(1, &mut name);
-        show_named(&name[..n]);
+        if check::same(&first[..n], b"--explain") {
+            show_from(2, true);
+        } else {
+            show_from(1, false);
+        }
     }
 }

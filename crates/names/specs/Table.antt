@@ -38,7 +38,7 @@ sources =
     ∷ source 2 ldcDirections ∷ source 2 passes ∷ source 4 errorTypes ∷ source 2 farValidity ∷ source 2 walks ∷ source 54 faultCodes
     ∷ source 2 syndromeValidity ∷ source 4 sizes ∷ source 2 extensions ∷ source 2 widths ∷ source 2 semantics
     ∷ source 2 maintenance ∷ source 2 accesses ∷ source 2 stepValidity ∷ source 2 exclusives ∷ source 8 asynchronousTypes
-    ∷ source 18 errorCodes ∷ source 2 systemDirections ∷ source 2 simdUses ∷ source 4 shortTypes ∷ source 24 reasons
+    ∷ source 18 errorCodes ∷ source 2 systemDirections ∷ source 2 simdUses ∷ source 4 shortTypes ∷ source 26 reasons
     ∷ source 5 injections
     ∷ []
 

@@ -231,7 +231,8 @@ shortTypes =
     ∷ means 3 "Recoverable error (UER)"
     ∷ []
 
--- why no edition has a word, by the number of the reason (crate reason)
+-- why no edition has a word, by the number of the rule that it breaks (crates reason and short_reason): 11, 15, 16, 18 and 20 are of the
+-- long form alone, 21 to 25 of the short form alone
 abbrev pub reasons : List Entry
 reasons =
     means 1 "a bit is set that belongs to no field of the class"
@@ -257,6 +258,8 @@ reasons =
     ∷ means 21 "TA 5 and coproc 3:0 don't go together"
     ∷ means 22 "CM 8 is 1 in an SError interrupt"
     ∷ means 23 "bits 11:10 and the fault code 5:0 don't go together"
+    ∷ means 24 "ISV 24 is 1, and SAS 23:22 is 3 or SRT 19:16 is 15"
+    ∷ means 25 "AET 11:10 is not 0, which needs RAS, and WnR 6 is 1, which RAS makes 0"
     ∷ []
 
 -- the injections of 01, in the order of its table

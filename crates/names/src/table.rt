@@ -9,7 +9,7 @@ ghost use Rattle.names.specs.Table.{texts, lists, together};
 const LISTS: usize = 34;
 
 // The texts, one after the other: the labels, and then each list of meanings by the value.
-const BYTES: [u8; 7290] = *b"\
+const BYTES: [u8; 7414] = *b"\
     ECILCVCONDTIOpc2Opc1CRnRtCRmDirectionRt2imm8RnOffsetAMimm16CommentCCKNOWNPASSSETFnVEAS1PTWIFSCISVSASSSESRTSFARCMWnRDFSC\
     EXAETOp0Op2Op1TAcoproc\
     : Unknown reason\
@@ -194,6 +194,8 @@ const BYTES: [u8; 7290] = *b"\
     : TA 5 and coproc 3:0 don't go together\
     : CM 8 is 1 in an SError interrupt\
     : bits 11:10 and the fault code 5:0 don't go together\
+    : ISV 24 is 1, and SAS 23:22 is 3 or SRT 19:16 is 15\
+    : AET 11:10 is not 0, which needs RAS, and WnR 6 is 1, which RAS makes 0\
     : Undefined Instruction, PC at the instruction\
     : Undefined Instruction, PC after the instruction\
     : Supervisor Call\
@@ -202,7 +204,7 @@ const BYTES: [u8; 7290] = *b"\
     ";
 
 // Where each text starts, and where the last ends.
-const STARTS: [u16; 305] = [
+const STARTS: [u16; 307] = [
     0,
     2,
     4,
@@ -503,11 +505,13 @@ const STARTS: [u16; 305] = [
     7063,
     7097,
     7150,
-    7196,
-    7245,
-    7262,
-    7278,
-    7290,
+    7202,
+    7274,
+    7320,
+    7369,
+    7386,
+    7402,
+    7414,
 ];
 
 // The first text of each list, the labels first, and the end of the last.
@@ -545,8 +549,8 @@ const FIRSTS: [u16; 35] = [
     269,
     271,
     275,
-    299,
-    304,
+    301,
+    306,
 ];
 
 fn wide(n: u16) -> usize
@@ -557,7 +561,7 @@ fn wide(n: u16) -> usize
 
 // Appends the bytes from `start` to `end`.
 fn cut(out: &mut [u8], at: usize, start: usize, end: usize) -> usize
-    requires { ⌜ (start ≤ end) × (end ≤ 7290) ⌝ }
+    requires { ⌜ (start ≤ end) × (end ≤ 7414) ⌝ }
     ensures { λ last. ⌜ Appends (take (end - start) (drop start (together texts))) (now (out .entry)) at (now (out .exit)) last ⌝ }
 {
     let bytes = BYTES;
@@ -566,7 +570,7 @@ fn cut(out: &mut [u8], at: usize, start: usize, end: usize) -> usize
 
 // Appends text n.
 fn text_at(out: &mut [u8], at: usize, n: usize) -> usize
-    requires { ⌜ n < 304 ⌝ }
+    requires { ⌜ n < 306 ⌝ }
     ensures { λ end. ⌜ Appends (getD texts n []) (now (out .entry)) at (now (out .exit)) end ⌝ }
 {
     let start = wide(STARTS[n]);

@@ -1,18 +1,18 @@
 -- A word of a known class, with IL as it must be, that breaks no rule is had by some edition: so a word that no edition has breaks a rule
 -- that is named.
 -- Assumes nothing.
-use mathlib.Core.Path.{_≡_, refl, sym, ap, subst, _∙_}
+use mathlib.Core.Path.{_≡_, refl, ap, _∙_}
 use mathlib.Core.Bool.{Bool, true, false, not, cond, _&&_, _||_, true≢false, and-assoc}
 use mathlib.Core.List.{List, [], _∷_}
 use Prim.Native.Nat.{ℕ}
-use native.Mathlib.Omega.{arith}
 use borrow.Author.Tests.{eqb-true}
 use lib.Dec.{T, eqb}
-use Rattle.bits.specs.Decide.{Test, needs, decide, AllPass}
+use Rattle.bits.specs.Among.{among}
+use Rattle.bits.specs.Decide.{AllPass}
 use Rattle.bits.specs.Field.{fieldOf, bitOf}
 use Rattle.bits.specs.Layout.{fitting}
 use Rattle.bits.proofs.Among.{among-each}
-use Rattle.bits.proofs.Booleans.{both-left, both-right, is-true}
+use Rattle.bits.proofs.Booleans.{is-true}
 use Rattle.edition.specs.Feature.{isEdition}
 use Rattle.iss.specs.Rule.{implies, extensionRule, maintenanceRule}
 use Rattle.layout.specs.Fields.{fieldsOf, recordWord}
@@ -29,25 +29,17 @@ use Rattle.rule.specs.Il.{ilRule}
 use Rattle.layout_rule.specs.Rule.{noSyndromeRule, aarch32Access, dataRule, errorType, errorRule, layoutRule}
 use Rattle.reason.specs.Reason.{someCode, someSet, someSyndrome, ruleTests, wordTests, whyOf}
 use Rattle.reason.proofs.Fits.{fits-at}
+use Rattle.reason.proofs.Tests.{numbered, all-passed, of-some-test}
 
 abbrev o : Origin
 o = Origin.AArch32
 
--- ---- tests whose answer is 0 all pass
+-- ---- the numbers of the tests
 
-abbrev nonzero : List (Test ℕ) → Bool
-nonzero [] = true
-nonzero (needs passes number ∷ tests) = not (eqb number 0) && nonzero tests
+abbrev pub ruleNumbers : List ℕ
+ruleNumbers = 1 ∷ 2 ∷ 3 ∷ 4 ∷ 5 ∷ 6 ∷ 7 ∷ 8 ∷ 9 ∷ 10 ∷ 11 ∷ 12 ∷ 13 ∷ 14 ∷ 15 ∷ 16 ∷ 17 ∷ 18 ∷ 19 ∷ 20 ∷ []
 
-all-passed : (tests : List (Test ℕ)) → T (nonzero tests) → decide tests 0 ≡ 0 → AllPass tests
-all-passed [] t d = tt
-all-passed (needs passes number ∷ tests) t d = go passes (all-passed tests (both-right (not (eqb number 0)) (nonzero tests) t)) d
-  where
-    go : (b : Bool) → (decide tests 0 ≡ 0 → AllPass tests) → cond b (decide tests 0) number ≡ 0 → (b ≡ true) × AllPass tests
-    go true rest e = (refl, rest e)
-    go false rest e = absurd (subst (λ (n : ℕ). T (not (eqb n 0))) e (both-left (not (eqb number 0)) (nonzero tests) t))
-
-rule-numbers : (r : Record) → T (nonzero (ruleTests r))
+rule-numbers : (r : Record) → T (numbered (among ruleNumbers) (ruleTests r))
 rule-numbers (Record.Plain r) = tt
 rule-numbers (Record.Wfx r) = tt
 rule-numbers (Record.Mcr r) = tt
@@ -64,13 +56,19 @@ rule-numbers (Record.Watchpoint r) = tt
 rule-numbers (Record.SError r) = tt
 rule-numbers (Record.System r) = tt
 
+-- THE NUMBER of a rule that a word breaks is one of these
+pub why-number : (w : ℕ) → (whyOf w ≡ 0 → ⊥) → among ruleNumbers (whyOf w) ≡ true
+unfolding whyOf
+why-number w some =
+    is-true (among ruleNumbers (whyOf w)) (of-some-test (among ruleNumbers) (wordTests (recordAt w) w) (rule-numbers (recordAt w)) some)
+
 -- ---- the rules that ask nothing of the edition
 
-both : {a b : Bool} → a ≡ true → b ≡ true → (a && b) ≡ true
+pub both : {a b : Bool} → a ≡ true → b ≡ true → (a && b) ≡ true
 both p q = rw (p, q)
 
 -- what ISV 1 needs, in two parts
-valid-both : (isv access cm s1ptw : Bool) → implies isv access ≡ true → implies isv (not cm && not s1ptw) ≡ true
+pub valid-both : (isv access cm s1ptw : Bool) → implies isv access ≡ true → implies isv (not cm && not s1ptw) ≡ true
     → implies isv ((access && not cm) && not s1ptw) ≡ true
 valid-both false access cm s1ptw p q = refl
 valid-both true true cm s1ptw p q = q
@@ -177,7 +175,7 @@ some-edition (Record.System r) p = (0, refl, refl)
 
 -- ---- the class and IL of the record at a word's bits
 
-add : {A B : Type 0} → A → B → A × B
+pub add : {A B : Type 0} → A → B → A × B
 add a b = (a, b)
 
 module _ (w : ℕ) where
@@ -204,7 +202,7 @@ module _ (w : ℕ) where
   unfolding whyOf has lawful
   none-broken class il why =
       let r = recordAt w in
-      let passed = all-passed (wordTests r w) (rule-numbers r) why in
+      let passed = all-passed (among ruleNumbers) refl (wordTests r w) (rule-numbers r) why in
       let rules = passed .1 .1 in
       let h = headed (fieldOf w 31 26) class in
       let had = some-edition r rules in

@@ -17,7 +17,7 @@ use Rattle.record.specs.Split.{plainAt, wfxAt, mcrAt, mcrrAt, ldcAt, simdAt, ca
 use Rattle.record.specs.Split.{stepAt, watchpointAt, serrorAt, systemAt, recordOf, recordAt}
 use Rattle.record.specs.declared.kinds.Record.{Record}
 
-field-fits : (w high low : ℕ) → ltb (fieldOf w high low) (2 ^ widthOf high low) ≡ true
+pub field-fits : (w high low : ℕ) → ltb (fieldOf w high low) (2 ^ widthOf high low) ≡ true
 field-fits w high low = lt-ltb (fieldOf w high low) (2 ^ widthOf high low) (mod-lt _ (pow-pos (widthOf high low)))
 
 pick : (b : Bool) (x y : Record) → T (fitting (fieldsOf x)) → T (fitting (fieldsOf y)) → T (fitting (fieldsOf (cond b x y)))

@@ -11,8 +11,10 @@ use Rattle.iss.specs.Rule.{implies, between, conditionRule, directionRule, imme
 use Rattle.iss.specs.Rule.{externalRule, walkRule, extensionRule, maintenanceRule}
 use Rattle.layout.specs.Fields.{debugCode, recordWord}
 use Rattle.record.specs.Split.{recordAt}
+use Rattle.record.specs.declared.kinds.Call.{Call}
 use Rattle.record.specs.declared.kinds.DataAbort.{DataAbort}
 use Rattle.record.specs.declared.kinds.Record.{Record}
+use Rattle.record.specs.declared.kinds.Smc.{Smc}
 use Rattle.layout_rule.specs.Rule.{noSyndromeRule, aarch32Access, stepRule, errorRule}
 use Rattle.fault_code.specs.Code.{everywhere, withLpa2, withoutRas, dataOnlyCode}
 
@@ -27,33 +29,55 @@ someSet set code = eqb set 0 || eqb code 0x10 && (eqb set 2 || eqb set 3)
 abbrev pub someSyndrome : Bool → ℕ → Bool
 someSyndrome isv code = implies isv (mmuFault code || between 0x13 0x17 code)
 
+-- the tests of fields that both forms have; the short form's own are in crate short_reason
 abbrev pub conditionTest : Bool → ℕ → Test ℕ
 conditionTest cv cond = needs (conditionRule cv cond) 2
 
+-- MCR, MRC, VMRS, MCRR and MRRC; LDC and STC
+abbrev pub transferTests : ℕ → Bool → ℕ → Bool → List (Test ℕ)
+transferTests class cv cond direction = conditionTest cv cond ∷ needs (directionRule class direction) 3 ∷ []
+
+abbrev pub ldcTests : Bool → ℕ → ℕ → Bool → List (Test ℕ)
+ldcTests cv cond am direction = conditionTest cv cond ∷ needs (addressingRule am direction) 4 ∷ []
+
+abbrev pub callTests : Call → List (Test ℕ)
+callTests r = needs (immediateRule (r .il) (r .imm16)) 5 ∷ []
+
+abbrev pub smcTests : Smc → List (Test ℕ)
+smcTests r = conditionTest (r .cv) (r .cond) ∷ needs (passedRule (r .ccknownpass) (r .cv) (r .cond)) 6 ∷ []
+
+-- EA and S1PTW of every abort, and FnV where it is a field
+abbrev pub faultTests : Bool → Bool → ℕ → List (Test ℕ) → List (Test ℕ)
+faultTests ea s1ptw code rest = needs (externalRule ea code) 8 ∷ needs (walkRule s1ptw code) 9 ∷ rest
+
 abbrev pub abortTests : Bool → Bool → Bool → ℕ → List (Test ℕ) → List (Test ℕ)
-abortTests fnv ea s1ptw code rest =
-    needs (implies fnv (eqb code 0x10)) 7 ∷ needs (externalRule ea code) 8 ∷ needs (walkRule s1ptw code) 9 ∷ rest
+abortTests fnv ea s1ptw code rest = needs (implies fnv (eqb code 0x10)) 7 ∷ faultTests ea s1ptw code rest
+
+-- ISV 1 with CM or S1PTW; SSE, and CM with WnR
+abbrev pub ownTest : Bool → Bool → Bool → Test ℕ
+ownTest isv cm s1ptw = needs (implies isv (not cm && not s1ptw)) 12
+
+abbrev pub directedTests : Bool → ℕ → Bool → Bool → List (Test ℕ) → List (Test ℕ)
+directedTests sse sas cm wnr rest = needs (extensionRule sse sas wnr) 13 ∷ needs (maintenanceRule cm wnr) 14 ∷ rest
 
 -- what a data abort says of the access
 abbrev pub accessTests : DataAbort → List (Test ℕ) → List (Test ℕ)
 accessTests r rest =
     needs (r .isv || noSyndromeRule r) 10
     ∷ needs (implies (r .isv) (aarch32Access r)) 11
-    ∷ needs (implies (r .isv) (not (r .cm) && not (r .s1ptw))) 12
-    ∷ needs (extensionRule (r .sse) (r .sas) (r .wnr)) 13
-    ∷ needs (maintenanceRule (r .cm) (r .wnr)) 14
-    ∷ rest
+    ∷ ownTest (r .isv) (r .cm) (r .s1ptw)
+    ∷ directedTests (r .sse) (r .sas) (r .cm) (r .wnr) rest
 
 -- the rules by kind
 abbrev pub ruleTests : Record → List (Test ℕ)
 ruleTests (Record.Plain r) = []
 ruleTests (Record.Wfx r) = conditionTest (r .cv) (r .cond) ∷ []
-ruleTests (Record.Mcr r) = conditionTest (r .cv) (r .cond) ∷ needs (directionRule (r .class) (r .direction)) 3 ∷ []
-ruleTests (Record.Mcrr r) = conditionTest (r .cv) (r .cond) ∷ needs (directionRule (r .class) (r .direction)) 3 ∷ []
-ruleTests (Record.Ldc r) = conditionTest (r .cv) (r .cond) ∷ needs (addressingRule (r .am) (r .direction)) 4 ∷ []
+ruleTests (Record.Mcr r) = transferTests (r .class) (r .cv) (r .cond) (r .direction)
+ruleTests (Record.Mcrr r) = transferTests (r .class) (r .cv) (r .cond) (r .direction)
+ruleTests (Record.Ldc r) = ldcTests (r .cv) (r .cond) (r .am) (r .direction)
 ruleTests (Record.Simd r) = conditionTest (r .cv) (r .cond) ∷ []
-ruleTests (Record.Call r) = needs (immediateRule (r .il) (r .imm16)) 5 ∷ []
-ruleTests (Record.Smc r) = conditionTest (r .cv) (r .cond) ∷ needs (passedRule (r .ccknownpass) (r .cv) (r .cond)) 6 ∷ []
+ruleTests (Record.Call r) = callTests r
+ruleTests (Record.Smc r) = smcTests r
 ruleTests (Record.InstructionAbort r) =
     abortTests (r .fnv) (r .ea) (r .s1ptw) (r .code)
     (needs (someCode (r .code)) 17 ∷ needs (someSet (r .set) (r .code)) 18 ∷ [])

@@ -11,7 +11,7 @@ use record::DataAbort;
 use record::InstructionAbort;
 
 // The number of a test that fails, else that of the rest.
-pub(crate) fn unless(passes: bool, number: u32, rest: u32) -> u32
+pub fn unless(passes: bool, number: u32, rest: u32) -> u32
     ensures { λ n. ⌜ n ≡ cond passes rest number ⌝ }
 {
     if passes { rest } else { number }
@@ -58,14 +58,14 @@ fn some_set(set: u32, code: u32) -> bool
     (set == 0) | (code == 0x10) & ((set == 2) | (set == 3))
 }
 
-fn some_syndrome(isv: bool, code: u32) -> bool
+pub fn some_syndrome(isv: bool, code: u32) -> bool
     ensures { λ yes. ⌜ yes ≡ someSyndrome isv code ⌝ }
 {
     !isv | (iss::mmu_fault(code) | (0x13 <= code) & (code <= 0x17))
 }
 
 // What both aborts ask.
-fn abort(fnv: bool, ea: bool, s1ptw: bool, code: u32, rest: u32) -> u32
+pub fn abort(fnv: bool, ea: bool, s1ptw: bool, code: u32, rest: u32) -> u32
     ensures { λ n. ⌜ n ≡ decide (abortTests fnv ea s1ptw code []) rest ⌝ }
 {
     let walk = unless(iss::walk_rule(s1ptw, code), 9, rest);

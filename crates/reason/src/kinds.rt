@@ -1,71 +1,48 @@
-// The rules by kind of record, as numbers: 0 where a record breaks none.
+// The rules by kind of record, as numbers: 0 where a record breaks none. The public ones are of kinds that the short form has too.
 ghost use mathlib.Core.Path.{_≡_};
 ghost use mathlib.Core.List.{[], _∷_};
 ghost use Rattle.bits.specs.Decide.{decide};
 ghost use Rattle.record.specs.declared.kinds.Record.{Record};
-ghost use Rattle.reason.specs.Reason.{conditionTest, ruleTests};
+ghost use Rattle.reason.specs.Reason.{conditionTest, transferTests, ldcTests, callTests, smcTests, ruleTests};
 use super::aborts::data_abort;
 use super::aborts::instruction_abort;
 use super::aborts::unless;
 use record::Call;
-use record::Ldc;
-use record::Mcr;
-use record::Mcrr;
 use record::Record;
 use record::SError;
-use record::Simd;
 use record::Smc;
 use record::Step;
 use record::Watchpoint;
-use record::Wfx;
 
-fn condition(cv: bool, cond: u32, rest: u32) -> u32
+pub fn condition(cv: bool, cond: u32, rest: u32) -> u32
     ensures { λ n. ⌜ n ≡ decide (conditionTest cv cond ∷ []) rest ⌝ }
 {
     unless(iss::condition_rule(cv, cond), 2, rest)
 }
 
-fn wfx(r: Wfx) -> u32
-    ensures { λ n. ⌜ n ≡ decide (ruleTests (Record.Wfx r)) 0 ⌝ }
+// A transfer between a register and a coprocessor.
+pub fn transfer(class: u32, cv: bool, cond: u32, direction: bool) -> u32
+    ensures { λ n. ⌜ n ≡ decide (transferTests class cv cond direction) 0 ⌝ }
 {
-    condition(r.cv, r.cond, 0)
+    let rest = unless(iss::direction_rule(class, direction), 3, 0);
+    condition(cv, cond, rest)
 }
 
-fn mcr(r: Mcr) -> u32
-    ensures { λ n. ⌜ n ≡ decide (ruleTests (Record.Mcr r)) 0 ⌝ }
+pub fn ldc(cv: bool, cond: u32, am: u32, direction: bool) -> u32
+    ensures { λ n. ⌜ n ≡ decide (ldcTests cv cond am direction) 0 ⌝ }
 {
-    let direction = unless(iss::direction_rule(r.class, r.direction), 3, 0);
-    condition(r.cv, r.cond, direction)
+    let addressing = unless(iss::addressing_rule(am, direction), 4, 0);
+    condition(cv, cond, addressing)
 }
 
-fn mcrr(r: Mcrr) -> u32
-    ensures { λ n. ⌜ n ≡ decide (ruleTests (Record.Mcrr r)) 0 ⌝ }
-{
-    let direction = unless(iss::direction_rule(r.class, r.direction), 3, 0);
-    condition(r.cv, r.cond, direction)
-}
-
-fn ldc(r: Ldc) -> u32
-    ensures { λ n. ⌜ n ≡ decide (ruleTests (Record.Ldc r)) 0 ⌝ }
-{
-    let addressing = unless(iss::addressing_rule(r.am, r.direction), 4, 0);
-    condition(r.cv, r.cond, addressing)
-}
-
-fn simd(r: Simd) -> u32
-    ensures { λ n. ⌜ n ≡ decide (ruleTests (Record.Simd r)) 0 ⌝ }
-{
-    condition(r.cv, r.cond, 0)
-}
-
-fn call(r: Call) -> u32
-    ensures { λ n. ⌜ n ≡ decide (ruleTests (Record.Call r)) 0 ⌝ }
+pub fn call(r: Call) -> u32
+    ensures { λ n. ⌜ n ≡ decide (callTests r) 0 ⌝ }
 {
     unless(iss::immediate_rule(r.il, r.imm16), 5, 0)
 }
 
-fn smc(r: Smc) -> u32
-    ensures { λ n. ⌜ n ≡ decide (ruleTests (Record.Smc r)) 0 ⌝ }
+pub fn smc(r: Smc) -> u32
+    ensures { λ n. ⌜ n ≡ decide (smcTests r) 0 ⌝ }
 {
     let passed = unless(iss::passed_rule(r.ccknownpass, r.cv, r.cond), 6, 0);
     condition(r.cv, r.cond, passed)
@@ -99,11 +76,11 @@ pub(crate) fn rules(r: Record) -> u32
 {
     match r {
         Record::Plain(_) => 0,
-        Record::Wfx(x) => wfx(x),
-        Record::Mcr(x) => mcr(x),
-        Record::Mcrr(x) => mcrr(x),
-        Record::Ldc(x) => ldc(x),
-        Record::Simd(x) => simd(x),
+        Record::Wfx(x) => condition(x.cv, x.cond, 0),
+        Record::Mcr(x) => transfer(x.class, x.cv, x.cond, x.direction),
+        Record::Mcrr(x) => transfer(x.class, x.cv, x.cond, x.direction),
+        Record::Ldc(x) => ldc(x.cv, x.cond, x.am, x.direction),
+        Record::Simd(x) => condition(x.cv, x.cond, 0),
         Record::Call(x) => call(x),
         Record::Smc(x) => smc(x),
         Record::InstructionAbort(x) => instruction_abort(x),

@@ -5,8 +5,8 @@ ghost use Rattle.reason.specs.Reason.{debugExceptions, whyOf};
 ghost use Rattle.bits.specs.Among.{among};
 use record::Esr;
 
-mod aborts;
-mod kinds;
+pub mod aborts;
+pub mod kinds;
 
 // A debug exception other than BKPT.
 fn debug_exception(class: u32) -> bool

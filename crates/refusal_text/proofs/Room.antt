@@ -12,11 +12,16 @@ use Rattle.edition.specs.Mask.{maskBelow}
 use Rattle.edition.specs.declared.Refusal.{Refusal}
 use Rattle.edition.specs.declared.Refusal.the-variants.{UnknownEdition, UpperHalf, UnknownClass, ShortInstruction, NoEdition}
 use Rattle.edition.specs.declared.Refusal.the-variants.{OtherEditions}
+use Rattle.names.specs.Name.{meaningOf}
+use Rattle.names.specs.Value.{reasons}
+use Rattle.names.proofs.Room.{meaning-length}
 use Rattle.text.specs.Ascii.{ascii}
 use Rattle.text.specs.Numeral.{hexText}
 use Rattle.text.proofs.Numerals.{hex-length}
 use Rattle.refusal_text.specs.Feature.{Asked, fits, setsOf, editionsOf, askedIn, askedBy, askedLines}
 use Rattle.refusal_text.specs.Refusal.{editionsBelow, editionsText, refusalText}
+use Rattle.refusal_text.specs.Why.{whyText}
+use Rattle.refusal_text.proofs.Why.{reasons-at}
 
 below-length : (n mask : ℕ) → length (editionsBelow n mask) ≤ 17 * n
 unfolding editionsBelow
@@ -63,3 +68,8 @@ refusal-length short (OtherEditions mask count) =
     let editions = editionsText (editionsOf short) mask in
     rw (length-append (ascii "refused 6: this edition doesn't have it, others do\n") (asked ++ editions), length-append asked editions)
     (omega (arith, asked-length short mask, editions-length short mask))
+
+pub why-length : (rule : ℕ) → length (whyText rule) ≤ 140
+why-length rule =
+    let r : length (meaningOf reasons rule) ≤ 128 = rw reasons-at at (meaning-length 31 rule) in
+    simp length-append (omega arith)

@@ -8,6 +8,7 @@ ghost use Rattle.text.specs.Numeral.{hexText};
 ghost use Rattle.edition.specs.declared.Refusal.{Refusal};
 ghost use Rattle.refusal_text.specs.Feature.{editionsOf, askedBy, askedLines};
 ghost use Rattle.refusal_text.specs.Refusal.{editionsBelow, editionsText, refusalText};
+ghost use Rattle.refusal_text.specs.Why.{whyText};
 use edition::Refusal;
 
 // An edition that is in a mask, as it is typed.
@@ -114,4 +115,16 @@ pub fn refusal_lines(out: &mut [u8], at: usize, short: bool, refusal: Refusal) -
             others(out, word, short, mask)
         }
     }
+}
+
+// The list of reasons, by its number in crate `names`.
+const REASONS: u32 = 31;
+
+// The rule that a word breaks which no edition has, by its number.
+pub fn why_line(out: &mut [u8], at: usize, rule: u32) -> usize
+    ensures { λ end. ⌜ Appends (whyText rule) (now (out .entry)) at (now (out .exit)) end ⌝ }
+{
+    let word = text::append(out, at, b"why");
+    let told = names::meaning(out, word, REASONS, rule as u64);
+    text::append(out, told, b"\n")
 }

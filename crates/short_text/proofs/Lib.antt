@@ -1,3 +1,4 @@
 pub mod Shapes
 pub mod Record
 pub mod Readings
+pub mod Five

@@ -9,7 +9,9 @@ use Rattle.edition.specs.Judge.{refusalNumber}
 use Rattle.edition.specs.declared.Refusal.{Refusal}
 use Rattle.field_text.specs.Rows.{shapeText}
 use Rattle.refusal_text.specs.Refusal.{refusalText}
+use Rattle.refusal_text.specs.Why.{whyText}
 use Rattle.short.specs.declared.answer.Read.{Read}
+use Rattle.short_reason.specs.Reason.{whyOf}
 use Rattle.text.specs.Ascii.{ascii}
 
 -- a data abort with code 0x11
@@ -24,7 +26,8 @@ wordText w = shapeText (shapeOf (fieldOf w 31 26) (fieldOf w 24 24) (fieldOf w 5
 
 -- what is said, with the word's fields as code reads them
 abbrev pub othersLines : ℕ → Refusal → List ℕ
-othersLines w refusal = cond (eqb (refusalNumber refusal) 6) (wordText w) []
+othersLines w refusal =
+    cond (eqb (refusalNumber refusal) 6) (wordText w) (cond (eqb (refusalNumber refusal) 5) (whyText (whyOf w)) [])
 
 abbrev pub readLines : ℕ → Read → List ℕ
 readLines w (Read.Taken r) = ascii "taken\n" ++ wordText w

@@ -46,15 +46,18 @@ fn taken(out: &mut [u8], at: usize, hsr: Hsr) -> usize
     word_lines(out, word, hsr)
 }
 
-// A word that the other edition has.
+// The fields of a word that the other edition has, and the rule that one breaks which none has.
 fn others(out: &mut [u8], at: usize, hsr: Hsr, refusal: Refusal) -> usize
     ensures { λ end. ⌜ Appends (othersLines (hsr .0) refusal) (now (out .entry)) at (now (out .exit)) end ⌝ }
 {
-    if edition::number(refusal) == 6 {
-        word_lines(out, at, hsr)
-    } else {
-        at
+    let number = edition::number(refusal);
+    if number == 6 {
+        return word_lines(out, at, hsr);
     }
+    if number == 5 {
+        return refusal_text::why_line(out, at, short_reason::why(hsr));
+    }
+    at
 }
 
 // A word that is refused.

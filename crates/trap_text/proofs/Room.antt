@@ -1,4 +1,4 @@
--- How long the lines of a trap can be: a line for its registers and one for each edition, none longer than 128 bytes.
+-- How long the lines of a trap can be: a line for its registers, and for each edition a line and what is said of the trap there.
 -- Assumes nothing.
 use mathlib.Core.Bool.{Bool, true, false, cond}
 use mathlib.Core.List.{List, [], _++_}
@@ -11,7 +11,9 @@ use Rattle.address.specs.declared.IntermediateAddress.{IntermediateAddress}
 use Rattle.address.specs.declared.VirtualAddress.{VirtualAddress}
 use Rattle.bits.specs.Field.{bitOf}
 use Rattle.edition.specs.Feature.{editions}
-use Rattle.log_text.proofs.Room.{decimal-field-length, hex-field-length, words-length}
+use Rattle.explain_text.specs.Trap.{trapSaid}
+use Rattle.explain_text.proofs.Room.{trap-said-length}
+use Rattle.log_text.proofs.Room.{decimal-field-length, hex-field-length, edition-field-length, words-length}
 use Rattle.log_text.specs.Lines.{decimalField, hexField, wordsText}
 use Rattle.record.specs.declared.kinds.Esr.{Esr}
 use Rattle.record.specs.declared.origin.Origin.{Origin}
@@ -21,7 +23,8 @@ use Rattle.trap.specs.Trap.{virtualIn, intermediateIn}
 use Rattle.trap.specs.declared.Answer.{Answer}
 use Rattle.trap.specs.declared.Trap.{Trap}
 use Rattle.trap_refusal.specs.declared.TrapRefusal.{TrapRefusal}
-use Rattle.trap_text.specs.Shown.{virtualText, intermediateText, takenText, refusalText, answerText, shownText, linesBelow, trapText}
+use Rattle.trap_text.specs.Shown.{virtualText, intermediateText, takenText, refusalText, answerText, shownText, toldText, linesBelow}
+use Rattle.trap_text.specs.Shown.{trapText}
 
 virtual-length : (a : VirtualAddress) → length (virtualText a) ≤ 32
 virtual-length (VirtualAddress.Known address) = let n = hex-field-length address in simp length-append (omega arith)
@@ -45,22 +48,31 @@ answer-length (Answer.Refused r) =
 
 shown-length : (edition : ℕ) (esr : Esr) (far : Far) (hpfar : Hpfar) → length (shownText edition esr far hpfar) ≤ 128
 shown-length edition esr far hpfar =
-    let n = decimal-field-length edition in
+    let n = edition-field-length edition in
     let a = answer-length (answerOf Origin.AArch32 edition esr far hpfar) in
     simp length-append (omega arith)
 
-lines-length : (n mask : ℕ) (line : ℕ → List ℕ) → ((e : ℕ) → length (line e) ≤ 128) → length (linesBelow n mask line) ≤ 128 * n
+told-length : (explained : Bool) (edition : ℕ) (esr : Esr) (far : Far) (hpfar : Hpfar)
+    → length (toldText explained edition esr far hpfar) ≤ 3760
+told-length true edition esr far hpfar =
+    rw (length-append (shownText edition esr far hpfar) (trapSaid edition esr far hpfar))
+    (omega (arith, shown-length edition esr far hpfar, trap-said-length edition esr far hpfar))
+told-length false edition esr far hpfar =
+    rw (length-append (shownText edition esr far hpfar) []) (omega (arith, shown-length edition esr far hpfar))
+
+lines-length : (n mask : ℕ) (line : ℕ → List ℕ) → ((e : ℕ) → length (line e) ≤ 3760) → length (linesBelow n mask line) ≤ 3760 * n
 unfolding linesBelow
 lines-length zero mask line h = omega arith
 lines-length (suc n) mask line h = go (bitOf mask n) (lines-length n mask line h) (h n)
   where
-    go : (t : Bool) → length (linesBelow n mask line) ≤ 128 * n → length (line n) ≤ 128
-        → length (linesBelow n mask line ++ cond t (line n) []) ≤ 128 * suc n
+    go : (t : Bool) → length (linesBelow n mask line) ≤ 3760 * n → length (line n) ≤ 3760
+        → length (linesBelow n mask line ++ cond t (line n) []) ≤ 3760 * suc n
     go true below here = simp length-append (omega arith)
     go false below here = simp length-append (omega arith)
 
-pub trap-length : (mask : ℕ) (esr : Esr) (far : Far) (hpfar : Hpfar) → length (trapText mask esr far hpfar) ≤ 4096
-trap-length mask esr far hpfar =
+pub trap-length : (mask : ℕ) (explained : Bool) (esr : Esr) (far : Far) (hpfar : Hpfar)
+    → length (trapText mask explained esr far hpfar) ≤ 65536
+trap-length mask explained esr far hpfar =
     let w = words-length esr far hpfar in
-    let l = lines-length editions mask (λ e. shownText e esr far hpfar) (λ e. shown-length e esr far hpfar) in
+    let l = lines-length editions mask (λ e. toldText explained e esr far hpfar) (λ e. told-length explained e esr far hpfar) in
     simp (length-append (wordsText esr far hpfar)) (omega arith)

@@ -1,10 +1,12 @@
 -- The whole trap's answer in one edition, as a line: the addresses that are known, or the refusal's number, mask and number of ones. And a
--- trap as its lines: its registers, and its answer in each edition of a mask. A log holds traps from AArch32 (02, C-23).
+-- trap as its lines: its registers, and its answer in each edition of a mask, explained where that is asked for. A log holds traps from
+-- AArch32 (02, C-23).
 use Prim.Native.Nat.{ℕ, zero, suc}
-use mathlib.Core.Bool.{cond}
+use mathlib.Core.Bool.{Bool, cond}
 use mathlib.Core.List.{List, [], _++_}
 use Rattle.bits.specs.Field.{bitOf}
 use Rattle.edition.specs.Feature.{editions}
+use Rattle.explain_text.specs.Trap.{trapSaid}
 use Rattle.record.specs.declared.origin.Origin.{Origin}
 use Rattle.record.specs.declared.kinds.Esr.{Esr}
 use Rattle.text.specs.Ascii.{ascii}
@@ -18,7 +20,7 @@ use Rattle.address.specs.declared.IntermediateAddress.{IntermediateAddress}
 use Rattle.trap.specs.declared.Trap.{Trap}
 use Rattle.trap_refusal.specs.declared.TrapRefusal.{TrapRefusal}
 use Rattle.trap.specs.declared.Answer.{Answer}
-use Rattle.log_text.specs.Lines.{decimalField, hexField, wordsText}
+use Rattle.log_text.specs.Lines.{decimalField, hexField, editionField, wordsText}
 
 abbrev pub virtualText : VirtualAddress → List ℕ
 virtualText (VirtualAddress.Known address) = ascii " virtual" ++ hexField address
@@ -40,8 +42,12 @@ answerText (Answer.Shown t) = takenText t
 answerText (Answer.Refused r) = refusalText r
 
 abbrev pub shownText : ℕ → Esr → Far → Hpfar → List ℕ
-shownText edition esr far hpfar = ascii "in" ++ decimalField edition ++ answerText (answerOf Origin.AArch32 edition esr far hpfar)
+shownText edition esr far hpfar = ascii "in" ++ editionField edition ++ answerText (answerOf Origin.AArch32 edition esr far hpfar)
     ++ ascii "\n"
+
+-- the line, and behind it what is said of the trap, where that is asked for
+abbrev pub toldText : Bool → ℕ → Esr → Far → Hpfar → List ℕ
+toldText explained edition esr far hpfar = shownText edition esr far hpfar ++ cond explained (trapSaid edition esr far hpfar) []
 
 -- the lines of the editions below n that are in a mask, each once and in ascending order
 unfoldable pub linesBelow : ℕ → ℕ → (ℕ → List ℕ) → List ℕ
@@ -49,5 +55,5 @@ linesBelow zero mask line = []
 linesBelow (suc n) mask line = linesBelow n mask line ++ cond (bitOf mask n) (line n) []
 
 -- a trap: its registers, and what each edition of a mask makes of it
-abbrev pub trapText : ℕ → Esr → Far → Hpfar → List ℕ
-trapText mask esr far hpfar = wordsText esr far hpfar ++ linesBelow editions mask (λ e. shownText e esr far hpfar)
+abbrev pub trapText : ℕ → Bool → Esr → Far → Hpfar → List ℕ
+trapText mask explained esr far hpfar = wordsText esr far hpfar ++ linesBelow editions mask (λ e. toldText explained e esr far hpfar)

@@ -1,17 +1,18 @@
-// The whole trap's answer in an edition as a line of text, and a trap as its lines in several editions, appended to a buffer as
-// `text::append` does.
+// The whole trap's answer in an edition as a line of text, and a trap as its lines in several editions, explained where that is asked for,
+// appended to a buffer as `text::append` does.
 ghost use mathlib.Core.Bool.{cond};
 ghost use mathlib.Core.List.{[]};
 ghost use Rattle.bits.specs.Field.{bitOf};
 ghost use Rattle.edition.specs.Feature.{editions};
 ghost use Rattle.text.specs.Append.{Appends};
 ghost use Rattle.trap_text.specs.Shown.{virtualText, intermediateText, takenText, refusalText, answerText, shownText, linesBelow};
-ghost use Rattle.trap_text.specs.Shown.{trapText};
+ghost use Rattle.trap_text.specs.Shown.{toldText, trapText};
 use address::Far;
 use address::Hpfar;
 use address::IntermediateAddress;
 use address::VirtualAddress;
 use log_text::decimal_field;
+use log_text::edition_field;
 use log_text::hex_field;
 use record::Esr;
 use record::Origin;
@@ -93,7 +94,7 @@ pub fn shown_line(
     ensures { λ end. ⌜ Appends (shownText edition esr far hpfar) (now (out .entry)) at (now (out .exit)) end ⌝ }
 {
     let word = text::append(out, at, b"in");
-    let number = decimal_field(out, word, edition as u64);
+    let number = edition_field(out, word, edition);
     let told = answer(
         out,
         number,
@@ -102,42 +103,78 @@ pub fn shown_line(
     text::append(out, told, b"\n")
 }
 
-// The line of an edition that is in a mask.
-fn line_in(
+// The line, and behind it what is said of the trap, where that is asked for.
+fn told_lines(
     out: &mut [u8],
     at: usize,
-    mask: u32,
+    explained: bool,
     edition: u32,
     esr: Esr,
     far: Far,
     hpfar: Hpfar,
 ) -> usize
-    ensures { λ end. ⌜ Appends (cond (bitOf mask edition) (shownText edition esr far hpfar) []) (now (out .entry)) at (now (out .exit)) end ⌝ }
+    ensures { λ end. ⌜ Appends (toldText explained edition esr far hpfar) (now (out .entry)) at (now (out .exit)) end ⌝ }
+{
+    let line = shown_line(out, at, edition, esr, far, hpfar);
+    if explained {
+        return explain_text::trap_said(out, line, edition, esr, far, hpfar);
+    }
+    line
+}
+
+// The lines of an edition that is in a mask.
+fn line_in(
+    out: &mut [u8],
+    at: usize,
+    mask: u32,
+    explained: bool,
+    edition: u32,
+    esr: Esr,
+    far: Far,
+    hpfar: Hpfar,
+) -> usize
+    ensures { λ end. ⌜ Appends (cond (bitOf mask edition) (toldText explained edition esr far hpfar) []) (now (out .entry)) at (now (out .exit)) end ⌝ }
 {
     if bits::bit(mask as u64, edition) {
-        shown_line(out, at, edition, esr, far, hpfar)
+        told_lines(out, at, explained, edition, esr, far, hpfar)
     } else {
         at
     }
 }
 
 // What each edition of a mask makes of a trap, each once and in ascending order.
-fn lines_in(out: &mut [u8], at: usize, mask: u32, esr: Esr, far: Far, hpfar: Hpfar) -> usize
-    ensures { λ end. ⌜ Appends (linesBelow editions mask (λ e. shownText e esr far hpfar)) (now (out .entry)) at (now (out .exit)) end ⌝ }
+fn lines_in(
+    out: &mut [u8],
+    at: usize,
+    mask: u32,
+    explained: bool,
+    esr: Esr,
+    far: Far,
+    hpfar: Hpfar,
+) -> usize
+    ensures { λ end. ⌜ Appends (linesBelow editions mask (λ e. toldText explained e esr far hpfar)) (now (out .entry)) at (now (out .exit)) end ⌝ }
 {
     let mut end = at;
     let mut e: u32 = 0;
     while e < edition::EDITIONS {
-        end = line_in(out, end, mask, e, esr, far, hpfar);
+        end = line_in(out, end, mask, explained, e, esr, far, hpfar);
         e += 1;
     }
     end
 }
 
 // A trap: its registers, and what each edition of a mask makes of it.
-pub fn trap_lines(out: &mut [u8], at: usize, mask: u32, esr: Esr, far: Far, hpfar: Hpfar) -> usize
-    ensures { λ end. ⌜ Appends (trapText mask esr far hpfar) (now (out .entry)) at (now (out .exit)) end ⌝ }
+pub fn trap_lines(
+    out: &mut [u8],
+    at: usize,
+    mask: u32,
+    explained: bool,
+    esr: Esr,
+    far: Far,
+    hpfar: Hpfar,
+) -> usize
+    ensures { λ end. ⌜ Appends (trapText mask explained esr far hpfar) (now (out .entry)) at (now (out .exit)) end ⌝ }
 {
     let words = log_text::words_line(out, at, esr, far, hpfar);
-    lines_in(out, words, mask, esr, far, hpfar)
+    lines_in(out, words, mask, explained, esr, far, hpfar)
 }

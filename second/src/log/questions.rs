@@ -78,7 +78,7 @@ fn look(log: &[u8], passed: u32, entry: u32) -> String {
     let mut rest = log;
     for (at, size) in SIZES.into_iter().enumerate() {
         let before = rest;
-        let Some(entries) = section(&mut rest, size) else { break };
+        let Ok(entries) = section(&mut rest, size) else { break };
         if at < passed as usize {
             continue;
         }

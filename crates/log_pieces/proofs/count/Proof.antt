@@ -1,4 +1,4 @@
--- `log_pieces::count` meets its contract: a piece for the answer, and one for each edition, trap and injection.
+-- `log_pieces::count` meets its contract: a piece for the answer and one for the cut, and one for each edition, trap and injection.
 -- Assumes nothing.
 use borrow.Author.Needs.{needs}
 use native.Mathlib.Omega.{arith}
@@ -27,9 +27,9 @@ add-result-3 : tie.Need-add-result-3
 add-result-3 c = omega (arith, few-shown (now (c .before .before .before .before .args .log)))
 
 returns : tie.Need-returns
-returns c =
+returns c explained =
     rw (c .before .before .count .ensures, c .before .count2 .ensures, c .count3 .ensures)
-    (pieces-counted (now (c .before .before .before .before .args .log)))
+    (pieces-counted explained (now (c .before .before .before .before .args .log)))
 
 pub count-spec : {M : Type 1} → statement M
 count-spec =

@@ -2,6 +2,7 @@
 -- Assumes nothing.
 use borrow.Author.Needs.{needs}
 use Rattle.text.proofs.Appending.{appends-both}
+use Rattle.log_text.proofs.Room.{injections-at}
 use Rattle.log_text.proofs.injection_line.Statement.{statement}
 use Rattle.log_text.proofs.injection_line.Tie as tie
 
@@ -23,6 +24,9 @@ append-requires-2 c κs = search needs
 decimal-field-requires-2 : tie.Need-decimal-field-requires-2
 decimal-field-requires-2 c κs = search needs
 
+meaning-requires : tie.Need-meaning-requires
+meaning-requires c κs = search needs
+
 slice-aggregate-append-3 : tie.Need-slice-aggregate-append-3
 slice-aggregate-append-3 c = search needs
 
@@ -35,13 +39,16 @@ same-length c = search needs
 returns : tie.Need-returns
 returns c =
     let last = c .before .before in
-    let fourth = last .before .before .before .before .before in
+    let name = last .before .before .before .before .before in
+    let fourth = name .before .before .before .before in
     let third = fourth .before .before .before .before in
     let second = third .before .before .before .before .before in
     let first = second .before .before .before .before in
     appends-both
+    (appends-both
     (appends-both (appends-both (appends-both (first .append .ensures) (second .decimal-field .ensures)) (third .append2 .ensures))
     (fourth .decimal-field2 .ensures))
+    (rw injections-at at (name .meaning .ensures)))
     (last .append3 .ensures)
 
 pub injection-line-spec : {M : Type 1} → statement M
@@ -54,6 +61,7 @@ injection-line-spec =
     slice-aggregate-append-2
     append-requires-2
     decimal-field-requires-2
+    meaning-requires
     slice-aggregate-append-3
     append-requires-3
     same-length

@@ -23,8 +23,8 @@ returns c =
     let start = c .before .before .before .before .before .before in
     let s = now (start .args .log) in
     let text = rw (start .pre .1) at (c .before .before .piece .ensures) in
-    let room : 0 + length (getD (piecesOf s) (start .args .i) []) ≤ length (now (start .args .out)) =
-    omega (arith, piece-short (seenMask (shown s)) s (start .args .i), start .pre) in
+    let room : 0 + length (getD (piecesOf (start .args .explained) s) (start .args .i) []) ≤ length (now (start .args .out)) =
+    omega (arith, piece-short (seenMask (shown s)) (start .args .explained) s (start .args .i), start .pre) in
     (appends-fitting room text .1, appends-counts (omega arith) text)
 
 pub piece-spec : {M : Type 1} → statement M

@@ -9,10 +9,10 @@ use Rattle.logread.proofs.write_text.Statement.{statement}
 use Rattle.logread.proofs.write_text.Tie as tie
 
 abbrev Inv-loop : tie.InvT-loop
-Inv-loop out₀ log seen n i₀ out i = length out ≡ length out₀
+Inv-loop out₀ log explained seen n i₀ out i = length out ≡ length out₀
 
 abbrev μ-loop : tie.MeasureT-loop
-μ-loop out₀ log seen n i₀ out i = n - i
+μ-loop out₀ log explained seen n i₀ out i = n - i
 
 known-editions-requires : tie.Need-known-editions-requires Inv-loop μ-loop
 known-editions-requires c κs = tt

@@ -20,9 +20,39 @@ returns c =
     let six = lines .before .before in
     rw (eq-eqb _ _ (sym (six .before .number .ensures) ∙ six .if1 .taken)) (lines .word-lines .ensures)
 
+why-requires : tie.Need-why-requires
+why-requires c κs = search needs
+
+why-line-requires : tie.Need-why-line-requires
+why-line-requires c κs = search needs
+
+same-length-2 : tie.Need-same-length-2
+same-length-2 c = search needs
+
 returns-2 : tie.Need-returns-2
-returns-2 c = rw (ne-eqb _ _ (λ e. c .if1 .left (c .before .number .ensures ∙ e))) (appends-none _ _)
+returns-2 c =
+    let line = c .before .before in
+    let why = line .before in
+    let five = why .before .before in
+    let number = five .before .before .number .ensures in
+    rw (ne-eqb _ _ (λ e. five .before .if1 .left (number ∙ e)), eq-eqb _ _ (sym number ∙ five .if2 .taken))
+    (rw (why .why .ensures) at (line .why-line .ensures))
+
+returns-3 : tie.Need-returns-3
+returns-3 c =
+    let number = c .before .before .number .ensures in
+    rw (ne-eqb _ _ (λ e. c .before .if1 .left (number ∙ e)), ne-eqb _ _ (λ e. c .if2 .left (number ∙ e))) (appends-none _ _)
 
 pub others-spec : {M : Type 1} → statement M
 others-spec =
-    tie.close (tie.spec number-requires word-lines-requires same-length returns returns-2)
+    tie.close
+    (tie.spec
+    number-requires
+    word-lines-requires
+    same-length
+    returns
+    why-requires
+    why-line-requires
+    same-length-2
+    returns-2
+    returns-3)

@@ -6,17 +6,17 @@ use Prim.Native.Nat.{_-_, _≤_}
 use native.Mathlib.Omega.{arith}
 use lib.ListN.{length}
 use Rattle.text.specs.Append.{Appends}
-use Rattle.trap_text.specs.Shown.{shownText, linesBelow}
+use Rattle.trap_text.specs.Shown.{toldText, linesBelow}
 use Rattle.trap_text.proofs.Lines.{lines-none, lines-more}
 use Rattle.trap_text.proofs.lines_in.Statement.{statement}
 use Rattle.trap_text.proofs.lines_in.Tie as tie
 
 abbrev Inv-loop : tie.InvT-loop
-Inv-loop out₀ at mask esr far hpfar end₀ e₀ out end e =
-    (e ≤ 16) × (length out ≡ length out₀) × Appends (linesBelow e mask (λ n. shownText n esr far hpfar)) out₀ at out end
+Inv-loop out₀ at mask explained esr far hpfar end₀ e₀ out end e =
+    (e ≤ 16) × (length out ≡ length out₀) × Appends (linesBelow e mask (λ n. toldText explained n esr far hpfar)) out₀ at out end
 
 abbrev μ-loop : tie.MeasureT-loop
-μ-loop out₀ at mask esr far hpfar end₀ e₀ out end e = 16 - e
+μ-loop out₀ at mask explained esr far hpfar end₀ e₀ out end e = 16 - e
 
 loop-holds : tie.Need-loop-holds Inv-loop μ-loop
 loop-holds c = (omega arith, refl, lines-none _ _ _ _)

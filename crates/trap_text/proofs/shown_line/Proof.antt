@@ -11,8 +11,8 @@ slice-aggregate-append c = search needs
 append-requires : tie.Need-append-requires
 append-requires c κs = search needs
 
-decimal-field-requires : tie.Need-decimal-field-requires
-decimal-field-requires c κs = search needs
+edition-field-requires : tie.Need-edition-field-requires
+edition-field-requires c κs = search needs
 
 read-requires : tie.Need-read-requires
 read-requires c κs = search needs
@@ -33,7 +33,7 @@ returns : tie.Need-returns
 returns c =
     appends-both (appends-both (appends-both (c .before .before .before .before .before .before .before .before .before .before .before
     .before .before .before .before .before .append .ensures)
-    (c .before .before .before .before .before .before .before .before .before .before .before .before .decimal-field .ensures))
+    (c .before .before .before .before .before .before .before .before .before .before .before .before .edition-field .ensures))
     (rw (c .before .before .before .before .before .before .before .before .read .ensures .answer) at
     (c .before .before .before .before .before .before .before .answer .ensures))) (c .before .before .append2 .ensures)
 
@@ -43,7 +43,7 @@ shown-line-spec =
     (tie.spec
     slice-aggregate-append
     append-requires
-    decimal-field-requires
+    edition-field-requires
     read-requires
     answer-requires
     slice-aggregate-append-2

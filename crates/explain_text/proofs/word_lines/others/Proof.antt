@@ -20,6 +20,9 @@ returns c =
     let six = lines .before .before in
     rw (eq-eqb _ _ (sym (six .before .number .ensures) ∙ six .if1 .taken)) (lines .word-lines .ensures)
 
+why-requires : tie.Need-why-requires
+why-requires c κs = search needs
+
 why-line-requires : tie.Need-why-line-requires
 why-line-requires c κs = search needs
 
@@ -29,9 +32,11 @@ same-length-2 c = search needs
 returns-2 : tie.Need-returns-2
 returns-2 c =
     let line = c .before .before in
-    let five = line .before .before in
+    let why = line .before in
+    let five = why .before .before in
     let number = five .before .before .number .ensures in
-    rw (ne-eqb _ _ (λ e. five .before .if1 .left (number ∙ e)), eq-eqb _ _ (sym number ∙ five .if2 .taken)) (line .why-line .ensures)
+    rw (ne-eqb _ _ (λ e. five .before .if1 .left (number ∙ e)), eq-eqb _ _ (sym number ∙ five .if2 .taken))
+    (rw (why .why .ensures) at (line .why-line .ensures))
 
 returns-3 : tie.Need-returns-3
 returns-3 c =
@@ -46,6 +51,7 @@ others-spec =
     word-lines-requires
     same-length
     returns
+    why-requires
     why-line-requires
     same-length-2
     returns-2

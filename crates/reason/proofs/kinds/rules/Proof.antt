@@ -16,20 +16,20 @@ enum-told c = search needs
 enum-known-r : tie.Need-enum-known-r
 enum-known-r c = search needs
 
-wfx-requires : tie.Need-wfx-requires
-wfx-requires c κs = search needs
+condition-requires : tie.Need-condition-requires
+condition-requires c κs = search needs
 
 enum-known-r-2 : tie.Need-enum-known-r-2
 enum-known-r-2 c = search needs
 
-mcr-requires : tie.Need-mcr-requires
-mcr-requires c κs = search needs
+transfer-requires : tie.Need-transfer-requires
+transfer-requires c κs = search needs
 
 enum-known-r-3 : tie.Need-enum-known-r-3
 enum-known-r-3 c = search needs
 
-mcrr-requires : tie.Need-mcrr-requires
-mcrr-requires c κs = search needs
+transfer-requires-2 : tie.Need-transfer-requires-2
+transfer-requires-2 c κs = search needs
 
 enum-known-r-4 : tie.Need-enum-known-r-4
 enum-known-r-4 c = search needs
@@ -40,8 +40,8 @@ ldc-requires c κs = search needs
 enum-known-r-5 : tie.Need-enum-known-r-5
 enum-known-r-5 c = search needs
 
-simd-requires : tie.Need-simd-requires
-simd-requires c κs = search needs
+condition-requires-2 : tie.Need-condition-requires-2
+condition-requires-2 c κs = search needs
 
 enum-known-r-6 : tie.Need-enum-known-r-6
 enum-known-r-6 c = search needs
@@ -95,19 +95,19 @@ returns : tie.Need-returns
 returns c = search needs
 
 returns-2 : tie.Need-returns-2
-returns-2 c = at-arm numberOf (c .wfx .ensures) (c .before .before .r .given .1)
+returns-2 c = at-arm numberOf (c .condition .ensures) (c .before .before .r .given .1)
 
 returns-3 : tie.Need-returns-3
-returns-3 c = at-arm numberOf (c .mcr .ensures) (c .before .before .r2 .given .1)
+returns-3 c = at-arm numberOf (c .transfer .ensures) (c .before .before .r2 .given .1)
 
 returns-4 : tie.Need-returns-4
-returns-4 c = at-arm numberOf (c .mcrr .ensures) (c .before .before .r3 .given .1)
+returns-4 c = at-arm numberOf (c .transfer2 .ensures) (c .before .before .r3 .given .1)
 
 returns-5 : tie.Need-returns-5
 returns-5 c = at-arm numberOf (c .ldc .ensures) (c .before .before .r4 .given .1)
 
 returns-6 : tie.Need-returns-6
-returns-6 c = at-arm numberOf (c .simd .ensures) (c .before .before .r5 .given .1)
+returns-6 c = at-arm numberOf (c .condition2 .ensures) (c .before .before .r5 .given .1)
 
 returns-7 : tie.Need-returns-7
 returns-7 c = at-arm numberOf (c .call .ensures) (c .before .before .r6 .given .1)
@@ -142,15 +142,15 @@ rules-spec =
     (tie.spec
     enum-told
     enum-known-r
-    wfx-requires
+    condition-requires
     enum-known-r-2
-    mcr-requires
+    transfer-requires
     enum-known-r-3
-    mcrr-requires
+    transfer-requires-2
     enum-known-r-4
     ldc-requires
     enum-known-r-5
-    simd-requires
+    condition-requires-2
     enum-known-r-6
     call-requires
     enum-known-r-7

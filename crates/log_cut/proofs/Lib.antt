@@ -1,0 +1,5 @@
+pub mod Rests
+pub mod Standings
+pub mod Given
+pub mod Accepted
+pub mod Room
