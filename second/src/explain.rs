@@ -77,15 +77,22 @@ fn word(catalogue: &Catalogue, edition: u32, word: u64) -> String {
 
 /// What is said of a whole trap in an edition.
 pub fn trap(catalogue: &Catalogue, edition: u32, registers: Registers) -> String {
+    // The fields of a syndrome that is taken, where a register refuses the trap.
+    let found = || {
+        let entry = catalogue.find(registers.esr as u32).expect("a syndrome that is taken");
+        fields(catalogue.form, &entry.record)
+    };
     match read_trap(catalogue, edition, registers) {
         Ok(trap) => {
             format!("taken\n{}{}", fields(catalogue.form, &trap.record), addresses(&trap))
         }
         Err(Refusal { number: 7, .. }) => {
             let top = if Edition(edition).lpa() { 43 } else { 39 };
-            format!("refused 7: a bit of HPFAR outside {top}:4 is set\n")
+            format!("refused 7: a bit of HPFAR outside {top}:4 is set\n{}", found())
         }
-        Err(Refusal { number: 8, .. }) => "refused 8: bits 63:32 of FAR are not zero\n".into(),
+        Err(Refusal { number: 8, .. }) => {
+            format!("refused 8: bits 63:32 of FAR are not zero\n{}", found())
+        }
         Err(refusal) => refused(catalogue, registers.esr, refusal),
     }
 }
@@ -118,8 +125,11 @@ fn refused(catalogue: &Catalogue, word: u64, refusal: Refusal) -> String {
     let form = catalogue.form;
     match refusal.number {
         1 => format!("refused 1: the edition is above {}\n", form.editions - 1),
-        2 => "refused 2: bits 63:32 are not zero\n".into(),
-        3 => "refused 3: EC 31:26 is no class of the build\n".into(),
+        2 => "refused 2: bits 63:32 of the syndrome are not zero\n".into(),
+        3 => {
+            let place = if form.editions == 2 { "in the short form" } else { "from AArch32" };
+            format!("refused 3: EC 31:26 is no class of the build {place}\n")
+        }
         4 => "refused 4: IL 25 is 0 where it must be 1\n".into(),
         5 => {
             let rule = why(form, word as u32).expect("a rule that the word breaks");
@@ -170,12 +180,12 @@ fn why(form: &Form, word: u32) -> Option<&'static str> {
         (kind.fixed != 0 && word % 64 != kind.fixed, "the fault code 5:0 is not 0x22, a debug exception"),
         (
             word & !(named | kind.fixed) != 0,
-            "a bit is set that belongs to no field of the class",
+            "a bit is set that belongs to no field that the build has in this class",
         ),
         (is("CV") && get("COND") == 15, "CV 24 is 1 and COND 23:20 is 0b1111"),
         (
             !matches!((is("TA"), get("coproc")), (false, 0) | (true, 0b1010)),
-            "TA 5 and coproc 3:0 don't go together",
+            "TA 5 is 1 and coproc 3:0 is not 0b1010, or TA 5 is 0 and coproc 3:0 is not 0",
         ),
         (
             matches!(class, 0x08 | 0x0c) && !is("Direction"),
@@ -195,14 +205,17 @@ fn why(form: &Form, word: u32) -> Option<&'static str> {
             is_abort && is("EA") && code / 16 != 1,
             "EA 9 is 1 and the fault code 5:0 is not among 0x10 to 0x1f",
         ),
-        (is("S1PTW") && !is_mmu_fault, "S1PTW 7 is 1 and the fault code 5:0 is no MMU fault"),
+        (
+            is("S1PTW") && !is_mmu_fault,
+            "S1PTW 7 is 1 and the fault code 5:0 is not among 0x00 to 0x0f, 0x29 and 0x2b",
+        ),
         (is_data && !is("ISV") && syndrome != 0, "ISV 24 is 0 and bits 23:14 are not"),
         (
             is_data && is("ISV")
                 && (is("SF") || get("SAS") == 3 || matches!(get("SRT"), 15 | 31)),
             match is_short {
                 true => "ISV 24 is 1, and SAS 23:22 is 3 or SRT 19:16 is 15",
-                false => "ISV 24 is 1, and the access is none of an AArch32 guest: SF 15 is 1, SAS 23:22 is 3, or SRT names no register of its own",
+                false => "ISV 24 is 1, and the access is none of an AArch32 guest: SF 15 is 1, SAS 23:22 is 3, or SRT 20:16 is 15 or 31",
             },
         ),
         (
@@ -220,16 +233,19 @@ fn why(form: &Form, word: u32) -> Option<&'static str> {
             class == 0x2f
                 && error != (0, 0, false)
                 && !(error.0 == 0x11 && matches!(error.1, 0..=3 | 6)),
-            "AET 12:10, EA 9 and DFSC 5:0 don't go together",
+            "DFSC 5:0 is neither 0 with AET 12:10 and EA 9 0, nor 0x11 with an AET of 0 to 3 or 6",
         ),
-        (is_abort && !is_code(form, class, code), "no edition has the fault code 5:0"),
+        (
+            is_abort && !is_code(form, class, code),
+            "no edition has the fault code 5:0 in this class",
+        ),
         (
             is_abort && set != 0 && !(code == 0x10 && set > 1),
             "SET 12:11 is neither 0 nor, with the fault code 0x10, 2 or 3",
         ),
         (
             !matches!((code, aet), (_, 0) | (0x10, 1) | (0x11, _)),
-            "bits 11:10 and the fault code 5:0 don't go together",
+            "bits 11:10 are not 0, and the fault code 5:0 is neither 0x11 nor, with bits 11:10 1, 0x10",
         ),
         (
             is_interrupt && is("WnR") && aet != 0,
@@ -237,7 +253,7 @@ fn why(form: &Form, word: u32) -> Option<&'static str> {
         ),
         (
             is_data && is("ISV") && !is_mmu_fault && !matches!(code, 0x13..=0x17),
-            "ISV 24 is 1 and the fault code 5:0 doesn't go with it",
+            "ISV 24 is 1 and the fault code 5:0 is not among 0x00 to 0x0f, 0x13 to 0x17, 0x29 and 0x2b",
         ),
     ];
     rules.into_iter().find(|(is_broken, _)| *is_broken).map(|(_, rule)| rule)
@@ -309,7 +325,7 @@ fn field_name(form: &Form, record: &Record, name: &'static str) -> &'static str 
         ("code", 0x20) => "IFSC",
         ("code", _) => "DFSC",
         ("imm16", 0x38) => "Comment",
-        ("AET", _) if is_short && record.get("code") != Some(0x11) => "FnV",
+        ("AET", _) if is_short && record.get("code") != Some(0x11) => "0:FnV",
         _ => name,
     }
 }
@@ -330,7 +346,7 @@ fn class_name(class: u32) -> Option<String> {
         0x15..=0x17 => return Some(call(class - 0x15, "AArch64")),
         0x18 => "Trapped MSR, MRS or System instruction execution in AArch64 state",
         0x20 => "Instruction Abort from a lower Exception level",
-        0x22 => "PC alignment fault exception",
+        0x22 => "PC alignment fault exception, IL of HSR is UNKNOWN",
         0x24 => "Data Abort from a lower Exception level",
         0x2f => "SError interrupt",
         0x30 => "Breakpoint exception from a lower Exception level",
@@ -362,11 +378,14 @@ fn fault(code: u32) -> Option<String> {
         0x08..=0x0b => format!("Access flag fault, level {level}"),
         0x0c..=0x0f => format!("Permission fault, level {level}"),
         0x10 => format!("Synchronous External abort, not on {UPDATE}"),
-        0x11 => "Asynchronous SError interrupt".into(),
+        0x11 => "SError interrupt, of which WnR says nothing".into(),
         0x13 => format!("Synchronous External abort on {UPDATE}, level -1"),
         0x14..=0x17 => format!("Synchronous External abort on {UPDATE}, level {level}"),
         0x18 => format!("{ECC}, not on translation table walk"),
-        0x19 => "Asynchronous SError interrupt, from a parity or ECC error on memory access".into(),
+        0x19 => {
+            let from = "a parity or ECC error on memory access";
+            format!("SError interrupt from {from}, of which WnR says nothing")
+        }
         0x1b => format!("{ECC} on {UPDATE}, level -1"),
         0x1c..=0x1f => format!("{ECC} on {UPDATE}, level {level}"),
         0x21 => "Alignment fault".into(),
@@ -374,9 +393,12 @@ fn fault(code: u32) -> Option<String> {
         0x29 => "Address size fault, level -1".into(),
         0x2b => "Translation fault, level -1".into(),
         0x30 => "TLB conflict abort".into(),
-        0x31 => "Unsupported atomic hardware update fault".into(),
+        0x31 => "Unsupported atomic hardware update fault, WnR of a Data Abort is UNKNOWN".into(),
         0x34 => "IMPLEMENTATION DEFINED fault (Lockdown)".into(),
-        0x35 => "IMPLEMENTATION DEFINED fault (Unsupported Exclusive or Atomic access)".into(),
+        0x35 => {
+            let what = "Unsupported Exclusive or Atomic access";
+            format!("IMPLEMENTATION DEFINED fault ({what}), WnR of ESR is UNKNOWN")
+        }
         _ => return None,
     };
     Some(text)
@@ -387,14 +409,20 @@ const CONDITIONS: [&str; 15] =
 
 /// What a value means, by the name of its field.
 fn meaning(form: &Form, record: &Record, name: &str, value: u32) -> Option<String> {
+    let is_short = form.editions == 2;
     let is_step = record.class == 0x32;
+    let is_smc = record.class == 0x13;
     let has_syndrome = record.is_set("ISV");
     let texts: &[&str] = match name {
         "IL" => &[
             "16-bit instruction trapped",
             "32-bit instruction trapped, or an exception that has this value",
         ],
+        "CV" if is_smc && value == 0 => &["The COND field is not valid, or CCKNOWNPASS is 0"],
         "CV" => &["The COND field is not valid", "The COND field is valid"],
+        "COND" if !record.is_set("CV") && is_smc && value == 0 => {
+            &["UNKNOWN, or 0 where CCKNOWNPASS is 0"]
+        }
         "COND" if !record.is_set("CV") => return Some("UNKNOWN".into()),
         "COND" => &CONDITIONS,
         "TI" => &["WFI trapped", "WFE trapped"],
@@ -419,12 +447,23 @@ fn meaning(form: &Form, record: &Record, name: &str, value: u32) -> Option<Strin
             "Uncontainable (UC)",
             "Restartable state (UEO)",
         ],
+        "FnV" | "0:FnV" if is_short => {
+            let register = if record.class == 0x20 { "HIFAR" } else { "HDFAR" };
+            return Some(match value {
+                0 => format!("{register} is valid, where the code is 0x10"),
+                _ => format!("{register} is not valid, and holds an UNKNOWN value"),
+            });
+        }
         "FnV" => &["FAR is valid", "FAR is not valid, and holds an UNKNOWN value"],
+        "EA" => &["", "IMPLEMENTATION DEFINED classification of External aborts"],
         "S1PTW" => &[
             "Fault not on a stage 2 translation for a stage 1 translation table walk",
             "Fault on the stage 2 translation of an access for a stage 1 translation table walk",
         ],
-        "DFSC" if record.class == 0x2f && value == 0 => &["Uncategorized error"],
+        "DFSC" if record.class == 0x2f && value == 0 => {
+            &["Uncategorized error, where the board has RAS"]
+        }
+        "DFSC" if record.class == 0x2f => return Some("Asynchronous SError interrupt".into()),
         "IFSC" | "DFSC" => return fault(value),
         "ISV" if is_step => &["EX bit is RES0", "EX bit is valid"],
         "ISV" => &["No valid instruction syndrome", "ISS[23:14] hold a valid instruction syndrome"],
@@ -432,9 +471,9 @@ fn meaning(form: &Form, record: &Record, name: &str, value: u32) -> Option<Strin
             "Not from a cache maintenance or address translation instruction",
             "From a cache maintenance or address translation instruction",
         ],
-        "WnR" => &["Read from a memory location", "Write to a memory location"],
-        "AET" if form.editions == 2 => &[
-            "Uncontainable error (UC) or uncategorized",
+        "WnR" => &["Read from a memory location", "Write to a memory location, or CM is 1"],
+        "AET" if is_short => &[
+            "Uncontainable error (UC) or uncategorized, where the board has RAS",
             "Unrecoverable error (UEU)",
             "Restartable error (UEO) or Corrected error (CE)",
             "Recoverable error (UER)",
@@ -452,7 +491,9 @@ fn meaning(form: &Form, record: &Record, name: &str, value: u32) -> Option<Strin
             "Exception was not caused by trapped use of Advanced SIMD functionality",
             "Exception was caused by trapped use of Advanced SIMD functionality",
         ],
+        "Rt" | "Rt2" | "Rn" if !is_short && record.class != 0x18 => return Some(register(value)),
         _ if !has_syndrome => &[],
+        "SRT" if !is_short => return Some(register(value)),
         "SAS" => &["Byte", "Halfword", "Word", "Doubleword"],
         "SSE" => &["Sign-extension not required", "Data item must be sign-extended"],
         "SF" => &[
@@ -470,6 +511,27 @@ fn meaning(form: &Form, record: &Record, name: &str, value: u32) -> Option<Strin
         _ => &[],
     };
     texts.get(value as usize).filter(|text| !text.is_empty()).map(|&text| text.into())
+}
+
+/// The AArch32 register that the AArch64 view has under a number: those of User
+/// mode, and then a pair of each mode that has its own, FIQ mode's R8 to R12
+/// before its pair.
+fn register(number: u32) -> String {
+    let of_mode =
+        |mode: &str, is_link: bool| format!("{}_{mode}", if is_link { "LR" } else { "SP" });
+    match number {
+        0..=7 => format!("R{number}"),
+        8..=12 => format!("R{number}_usr"),
+        13 | 14 => of_mode("usr", number == 14),
+        15 => of_mode("hyp", false),
+        16..=23 => {
+            let mode = ["irq", "svc", "abt", "und"][(number as usize - 16) / 2];
+            of_mode(mode, number % 2 == 0)
+        }
+        24..=28 => format!("R{}_fiq", number - 16),
+        29 | 30 => of_mode("fiq", number == 30),
+        _ => "register 15 of the instruction".into(),
+    }
 }
 
 fn direction(class: u32, value: u32) -> String {
@@ -595,6 +657,12 @@ pub fn questions() -> String {
         for edition in [0, 7, at as u32 % 16] {
             text += &format!("{edition:x} {word:016x}\n");
         }
+    }
+    // Each register, where the three kinds of field that name one stand.
+    for register in 0..32u32 {
+        text += &format!("0 {:016x}\n", 0x0fe0_0001 + (register << 5));
+        text += &format!("0 {:016x}\n", 0x13e0_0001 + (register << 10));
+        text += &format!("0 {:016x}\n", 0x9380_0005 + (register << 16));
     }
     for code in 0..64u32 {
         text += &format!("{:x} {:016x}\n", code % 16, 0x9200_0000 + code);

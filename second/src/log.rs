@@ -173,7 +173,7 @@ pub fn shown(bytes: &[u8], explained: bool) -> String {
         Err(Refusal { number: 13, section }) => {
             let (log, told) = before_cut(bytes);
             let entries = entries(&log, explained);
-            format!("{first}what precedes the cut:\n{entries}cut in section {section}: {told}\n")
+            format!("{first}what precedes the cut, if the counts are right:\n{entries}cut in section {section}: {told}\n")
         }
         Err(_) => first,
     }

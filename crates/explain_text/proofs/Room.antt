@@ -95,8 +95,10 @@ trap-length : (e w : ℕ) (a : Answer) → length (answerLines e w a) ≤ 3632
 trap-length e w (Answer.Shown t) =
     joined (ascii "taken\n" ++ wordText w) (addressesText t) 3126 200 (taken-length w) (addresses-length t) (omega arith)
 trap-length e w (Answer.Refused (TrapRefusal.Syndrome refusal)) = omega (arith, refused-length w refusal)
-trap-length e w (Answer.Refused TrapRefusal.Hpfar) = omega (arith, hpfar-length e)
-trap-length e w (Answer.Refused TrapRefusal.Far) = omega arith
+trap-length e w (Answer.Refused TrapRefusal.Hpfar) =
+    joined (hpfarText e) (wordText w) 100 3120 (hpfar-length e) (word-length w) (omega arith)
+trap-length e w (Answer.Refused TrapRefusal.Far) =
+    joined (ascii "refused 8: bits 63:32 of FAR are not zero\n") (wordText w) 100 3120 (omega arith) (word-length w) (omega arith)
 
 pub word-said-length : (e : ℕ) (esr : Esr) → length (wordSaid e esr) ≤ 3632
 word-said-length e esr = rw (← read-said e esr _ refl) (read-length (esr .0) (readOf Origin.AArch32 e esr))

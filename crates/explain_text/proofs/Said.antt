@@ -4,6 +4,7 @@ use mathlib.Core.Path.{_≡_, refl, sym, ap, _∙_}
 use mathlib.Core.Bool.{true, false}
 use mathlib.Core.List.{List, _++_}
 use Prim.Native.Nat.{ℕ}
+use Rattle.bits.proofs.Arms.{absurd-answer}
 use Rattle.address.specs.declared.Far.{Far}
 use Rattle.address.specs.declared.Hpfar.{Hpfar}
 use Rattle.edition.specs.declared.Refusal.{Refusal}
@@ -26,13 +27,13 @@ use Rattle.syndrome.specs.declared.answer.Read.{Read}
 use Rattle.syndrome.proofs.Demand2.{read-exactly, has-word-exactly}
 use Rattle.syndrome.proofs.Refusals.{read-six-exactly}
 use Rattle.text.specs.Ascii.{ascii}
-use Rattle.trap.specs.Answer.{answerOf}
+use Rattle.trap.specs.Answer.{answerRead, answerOf}
 use Rattle.trap.specs.Trap.{recordIn}
 use Rattle.trap.specs.declared.Answer.{Answer}
 use Rattle.trap_refusal.specs.declared.TrapRefusal.{TrapRefusal}
 use Rattle.trap.proofs.Shown.{shown-exactly, shown-holds, refused-alike}
 use Rattle.explain_text.specs.Word.{refusedText, readText}
-use Rattle.explain_text.specs.Trap.{addressesText, answerText}
+use Rattle.explain_text.specs.Trap.{addressesText, hpfarText, answerText}
 use Rattle.explain_text.specs.Inner.{refusedLines, readLines, answerLines}
 
 abbrev o : Origin
@@ -42,6 +43,12 @@ had-said : (e : ℕ) (r : Record) → has o e r ≡ true → wordText (recordWor
 had-said e r h = word-said r (has-own o e r h) (has-fits o e r h)
 
 module _ (e : ℕ) (esr : Esr) where
+  -- a word that some edition has
+  word-of-record : (x : ℕ) (r : Record) → has o x r ≡ true → recordWord r ≡ esr .0 → wordText (esr .0) ≡ recordText (recordAt (esr .0))
+  word-of-record x r h same =
+      ap wordText (sym same) ∙ had-said x r h
+      ∙ ap recordText (sym (record-back r (has-own o x r h) (has-fits o x r h)) ∙ ap recordAt same)
+
   taken-said : (r : Record) → readOf o e esr ≡ Read.Taken r → wordText (esr .0) ≡ recordText r
   taken-said r is =
       let x = read-exactly o e esr r .0 is in
@@ -53,10 +60,7 @@ module _ (e : ℕ) (esr : Esr) where
   six-said mask count is =
       let some = read-six-exactly o e esr mask count .0 is .0 .2 in
       let found = has-word-exactly o (some .0) (esr .0) .0 (some .2) in
-      let r = found .0 in
-      ap wordText (sym (found .2)) ∙ had-said (some .0) r (found .1)
-      ∙ ap recordText (sym (record-back r (has-own o (some .0) r (found .1)) (has-fits o (some .0) r (found .1)))
-      ∙ ap recordAt (found .2))
+      word-of-record (some .0) (found .0) (found .1) (found .2)
 
   refused-said : (refusal : Refusal) → readOf o e esr ≡ Read.Refused refusal → refusedLines (esr .0) refusal ≡ refusedText (esr .0) refusal
   refused-said UnknownEdition is = refl
@@ -72,6 +76,19 @@ module _ (e : ℕ) (esr : Esr) where
   read-said (Read.Refused refusal) is = refused-said refusal is
 
   module _ (far : Far) (hpfar : Hpfar) where
+    -- a trap that a register refuses: its syndrome is taken
+    register-said : (refusal : TrapRefusal) → ((f : Refusal) → Answer.Refused (TrapRefusal.Syndrome f) ≡ Answer.Refused refusal → ⊥)
+        → answerOf o e esr far hpfar ≡ Answer.Refused refusal → wordText (esr .0) ≡ recordText (recordAt (esr .0))
+    unfolding answerOf
+    register-said refusal register is = by (readOf o e esr) refl is
+      where
+        by : (a : Read) → readOf o e esr ≡ a → answerRead o e a far hpfar ≡ Answer.Refused refusal
+            → wordText (esr .0) ≡ recordText (recordAt (esr .0))
+        by (Read.Taken r) read told =
+            let x = read-exactly o e esr r .0 read in
+            word-of-record e r (x .0) (x .1)
+        by (Read.Refused f) read told = absurd (register f told)
+
     pub answer-said : (a : Answer) → answerOf o e esr far hpfar ≡ a → answerLines e (esr .0) a ≡ answerText e (esr .0) a
     answer-said (Answer.Shown t) is =
         let x = shown-exactly o e esr far hpfar t .0 is in
@@ -79,5 +96,8 @@ module _ (e : ℕ) (esr : Esr) where
         ap (λ (fields : List ℕ). ascii "taken\n" ++ fields ++ addressesText t)
         (taken-said (x .syndrome) (x .taken) ∙ ap recordText (sym same))
     answer-said (Answer.Refused (TrapRefusal.Syndrome refusal)) is = refused-said refusal (refused-alike o e esr far hpfar refusal .0 is)
-    answer-said (Answer.Refused TrapRefusal.Hpfar) is = refl
-    answer-said (Answer.Refused TrapRefusal.Far) is = refl
+    answer-said (Answer.Refused TrapRefusal.Hpfar) is =
+        ap (λ (fields : List ℕ). hpfarText e ++ fields) (register-said TrapRefusal.Hpfar (λ f same. absurd-answer (cc same)) is)
+    answer-said (Answer.Refused TrapRefusal.Far) is =
+        ap (λ (fields : List ℕ). ascii "refused 8: bits 63:32 of FAR are not zero\n" ++ fields)
+        (register-said TrapRefusal.Far (λ f same. absurd-answer (cc same)) is)

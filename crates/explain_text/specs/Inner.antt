@@ -28,8 +28,8 @@ readLines w (Read.Refused refusal) = refusedLines w refusal
 
 abbrev pub refusalLines : ℕ → ℕ → TrapRefusal → List ℕ
 refusalLines e w (TrapRefusal.Syndrome refusal) = refusedLines w refusal
-refusalLines e w TrapRefusal.Hpfar = hpfarText e
-refusalLines e w TrapRefusal.Far = ascii "refused 8: bits 63:32 of FAR are not zero\n"
+refusalLines e w TrapRefusal.Hpfar = hpfarText e ++ wordText w
+refusalLines e w TrapRefusal.Far = ascii "refused 8: bits 63:32 of FAR are not zero\n" ++ wordText w
 
 abbrev pub answerLines : ℕ → ℕ → Answer → List ℕ
 answerLines e w (Answer.Shown t) = ascii "taken\n" ++ wordText w ++ addressesText t

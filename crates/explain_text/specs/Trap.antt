@@ -1,5 +1,6 @@
 -- WHAT IS SAID OF A WHOLE TRAP in an edition, from AArch32: what is said of its syndrome, and then the addresses that are known, with the
--- registers that they are from, and of the others why they are not; or the register that refuses it.
+-- registers that they are from, and of the others why they are not; or the register that refuses it, and the lines of its syndrome's record,
+-- which was taken.
 use Prim.Native.Nat.{ℕ}
 use mathlib.Core.Bool.{cond}
 use mathlib.Core.List.{List, [], _++_}
@@ -8,6 +9,7 @@ use Rattle.address.specs.declared.Hpfar.{Hpfar}
 use Rattle.address.specs.declared.IntermediateAddress.{IntermediateAddress}
 use Rattle.address.specs.declared.VirtualAddress.{VirtualAddress}
 use Rattle.edition.specs.Feature.{lpa}
+use Rattle.record.specs.Split.{recordAt}
 use Rattle.record.specs.declared.origin.Origin.{Origin}
 use Rattle.record.specs.declared.kinds.Esr.{Esr}
 use Rattle.record_text.specs.Text.{recordText}
@@ -44,8 +46,8 @@ hpfarText e = cond (lpa e) (ascii "refused 7: a bit of HPFAR outside 43:4 is set
 
 abbrev pub trapRefused : ℕ → ℕ → TrapRefusal → List ℕ
 trapRefused e w (TrapRefusal.Syndrome refusal) = refusedText w refusal
-trapRefused e w TrapRefusal.Hpfar = hpfarText e
-trapRefused e w TrapRefusal.Far = ascii "refused 8: bits 63:32 of FAR are not zero\n"
+trapRefused e w TrapRefusal.Hpfar = hpfarText e ++ recordText (recordAt w)
+trapRefused e w TrapRefusal.Far = ascii "refused 8: bits 63:32 of FAR are not zero\n" ++ recordText (recordAt w)
 
 abbrev pub answerText : ℕ → ℕ → Answer → List ℕ
 answerText e w (Answer.Shown t) = ascii "taken\n" ++ recordText (recordIn t) ++ addressesText t

@@ -24,13 +24,20 @@ fn hpfar_line(out: &mut [u8], at: usize, edition: u32) -> usize
     }
 }
 
+// Why a trap is refused, and where a register refuses it the fields of its syndrome, which was taken.
 fn refusal(out: &mut [u8], at: usize, edition: u32, esr: Esr, refusal: TrapRefusal) -> usize
     ensures { λ end. ⌜ Appends (refusalLines edition (esr .0) refusal) (now (out .entry)) at (now (out .exit)) end ⌝ }
 {
     match refusal {
         TrapRefusal::Syndrome(r) => refused(out, at, esr, r),
-        TrapRefusal::Hpfar => hpfar_line(out, at, edition),
-        TrapRefusal::Far => text::append(out, at, b"refused 8: bits 63:32 of FAR are not zero\n"),
+        TrapRefusal::Hpfar => {
+            let line = hpfar_line(out, at, edition);
+            record_text::word_lines(out, line, esr)
+        }
+        TrapRefusal::Far => {
+            let line = text::append(out, at, b"refused 8: bits 63:32 of FAR are not zero\n");
+            record_text::word_lines(out, line, esr)
+        }
     }
 }
 

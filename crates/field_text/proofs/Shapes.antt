@@ -22,6 +22,6 @@ each-within top (f ∷ fs) [] t k = absurd t
 each-within top (f ∷ fs) (n ∷ ns) t zero = leb→le (f + n) top (both-left (leb (f + n) top) (within top fs ns) t)
 each-within top (f ∷ fs) (n ∷ ns) t (suc k) = each-within top fs ns (both-right (leb (f + n) top) (within top fs ns) t) k
 
-pub shape-within : (shape : ℕ) → getD shapeFirsts shape 0 + getD shapeCounts shape 0 ≤ 206
+pub shape-within : (shape : ℕ) → getD shapeFirsts shape 0 + getD shapeCounts shape 0 ≤ 210
 unfolding shapeFirsts shapeCounts
-shape-within = each-within 206 shapeFirsts shapeCounts tt
+shape-within = each-within 210 shapeFirsts shapeCounts tt

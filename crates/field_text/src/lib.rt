@@ -8,7 +8,7 @@ mod shape;
 
 // n rows from the first on, over a word.
 fn rows_lines(out: &mut [u8], at: usize, word: u64, first: usize, n: usize) -> usize
-    requires { ⌜ first + n ≤ 206 ⌝ }
+    requires { ⌜ first + n ≤ 210 ⌝ }
     ensures { λ end. ⌜ Appends (rowsText word (rowsFrom first n)) (now (out .entry)) at (now (out .exit)) end ⌝ }
 {
     let mut end = at;

@@ -53,8 +53,8 @@ short-entries seen explained e =
 first-short : (a : Read) → Short (firstText a)
 first-short a = go (isCut a)
   where
-    go : (t : Bool) → Short (readText a ++ cond t (ascii "what precedes the cut:\n") [])
-    go true = rw (length-append (readText a) (ascii "what precedes the cut:\n")) (omega (arith, read-length a))
+    go : (t : Bool) → Short (readText a ++ cond t (ascii "what precedes the cut, if the counts are right:\n") [])
+    go true = rw (length-append (readText a) (ascii "what precedes the cut, if the counts are right:\n")) (omega (arith, read-length a))
     go false = rw (length-append (readText a) []) (omega (arith, read-length a))
 
 last-short : (s : List ℕ) → Short (lastText s)

@@ -57,7 +57,7 @@ entryPieces seen explained e =
 
 -- the first piece, how the log was read, and the last, where it is cut
 abbrev pub firstText : Read → List ℕ
-firstText a = readText a ++ cond (isCut a) (ascii "what precedes the cut:\n") []
+firstText a = readText a ++ cond (isCut a) (ascii "what precedes the cut, if the counts are right:\n") []
 
 abbrev pub cutIn : List ℕ → ℕ → List ℕ
 cutIn s section = cutText section (cutAfter s (section - 1))

@@ -58,7 +58,11 @@ fn first_lines(out: &mut [u8], at: usize, answer: Read) -> usize
 {
     let line = log_text::read_line(out, at, answer);
     if log::number_of(answer) == 13 {
-        return text::append(out, line, b"what precedes the cut:\n");
+        return text::append(
+            out,
+            line,
+            b"what precedes the cut, if the counts are right:\n",
+        );
     }
     line
 }

@@ -23,7 +23,7 @@ classes =
     ∷ means 0x17 "SMC instruction execution in AArch64 state"
     ∷ means 0x18 "Trapped MSR, MRS or System instruction execution in AArch64 state"
     ∷ means 0x20 "Instruction Abort from a lower Exception level"
-    ∷ means 0x22 "PC alignment fault exception"
+    ∷ means 0x22 "PC alignment fault exception, IL of HSR is UNKNOWN"
     ∷ means 0x24 "Data Abort from a lower Exception level"
     ∷ means 0x2F "SError interrupt"
     ∷ means 0x30 "Breakpoint exception from a lower Exception level"

@@ -2,7 +2,8 @@
 use mathlib.Core.List.{List, [], _∷_}
 use Rattle.names.specs.Name.{Entry, means}
 
--- IFSC and DFSC
+-- IFSC and DFSC. WnR is UNKNOWN with 0x31 and 0x35 in the long form, and an SError interrupt, which the short form alone has among its
+-- codes, has none that says anything
 abbrev pub faultCodes : List Entry
 faultCodes =
     means 0x00 "Address size fault, level 0 of translation or translation table base register"
@@ -22,14 +23,14 @@ faultCodes =
     ∷ means 0x0E "Permission fault, level 2"
     ∷ means 0x0F "Permission fault, level 3"
     ∷ means 0x10 "Synchronous External abort, not on translation table walk or hardware update of translation table"
-    ∷ means 0x11 "Asynchronous SError interrupt"
+    ∷ means 0x11 "SError interrupt, of which WnR says nothing"
     ∷ means 0x13 "Synchronous External abort on translation table walk or hardware update of translation table, level -1"
     ∷ means 0x14 "Synchronous External abort on translation table walk or hardware update of translation table, level 0"
     ∷ means 0x15 "Synchronous External abort on translation table walk or hardware update of translation table, level 1"
     ∷ means 0x16 "Synchronous External abort on translation table walk or hardware update of translation table, level 2"
     ∷ means 0x17 "Synchronous External abort on translation table walk or hardware update of translation table, level 3"
     ∷ means 0x18 "Synchronous parity or ECC error on memory access, not on translation table walk"
-    ∷ means 0x19 "Asynchronous SError interrupt, from a parity or ECC error on memory access"
+    ∷ means 0x19 "SError interrupt from a parity or ECC error on memory access, of which WnR says nothing"
     ∷ means 0x1B "Synchronous parity or ECC error on memory access on translation table walk or hardware update of translation table, level -1"
     ∷ means 0x1C "Synchronous parity or ECC error on memory access on translation table walk or hardware update of translation table, level 0"
     ∷ means 0x1D "Synchronous parity or ECC error on memory access on translation table walk or hardware update of translation table, level 1"
@@ -40,14 +41,14 @@ faultCodes =
     ∷ means 0x29 "Address size fault, level -1"
     ∷ means 0x2B "Translation fault, level -1"
     ∷ means 0x30 "TLB conflict abort"
-    ∷ means 0x31 "Unsupported atomic hardware update fault"
+    ∷ means 0x31 "Unsupported atomic hardware update fault, WnR of a Data Abort is UNKNOWN"
     ∷ means 0x34 "IMPLEMENTATION DEFINED fault (Lockdown)"
-    ∷ means 0x35 "IMPLEMENTATION DEFINED fault (Unsupported Exclusive or Atomic access)"
+    ∷ means 0x35 "IMPLEMENTATION DEFINED fault (Unsupported Exclusive or Atomic access), WnR of ESR is UNKNOWN"
     ∷ []
 
 -- DFSC of an SError interrupt
 abbrev pub errorCodes : List Entry
 errorCodes =
-    means 0x00 "Uncategorized error"
+    means 0x00 "Uncategorized error, where the board has RAS"
     ∷ means 0x11 "Asynchronous SError interrupt"
     ∷ []

@@ -10,7 +10,8 @@ use Rattle.names.specs.Code.{faultCodes, errorCodes}
 use Rattle.names.specs.Value.{lengths, validity, conditions, noCondition, waits, mcrDirections, mcrrDirections, offsets}
 use Rattle.names.specs.Value.{addressingModes, ldcDirections, passes, errorTypes, farValidity, walks, syndromeValidity, sizes}
 use Rattle.names.specs.Value.{extensions, widths, semantics, maintenance, accesses, stepValidity, exclusives, asynchronousTypes}
-use Rattle.names.specs.Value.{systemDirections, simdUses, shortTypes, reasons, injections}
+use Rattle.names.specs.Value.{systemDirections, simdUses, shortTypes, reasons, injections, passValidity, passNoCondition, registers, externalTypes}
+use Rattle.names.specs.Value.{hifarValidity, hdfarValidity}
 
 unfoldable pub labels : List (List ℕ)
 labels =
@@ -18,7 +19,7 @@ labels =
     ∷ ascii "CRm" ∷ ascii "Direction" ∷ ascii "Rt2" ∷ ascii "imm8" ∷ ascii "Rn" ∷ ascii "Offset" ∷ ascii "AM" ∷ ascii "imm16"
     ∷ ascii "Comment" ∷ ascii "CCKNOWNPASS" ∷ ascii "SET" ∷ ascii "FnV" ∷ ascii "EA" ∷ ascii "S1PTW" ∷ ascii "IFSC" ∷ ascii "ISV"
     ∷ ascii "SAS" ∷ ascii "SSE" ∷ ascii "SRT" ∷ ascii "SF" ∷ ascii "AR" ∷ ascii "CM" ∷ ascii "WnR" ∷ ascii "DFSC" ∷ ascii "EX"
-    ∷ ascii "AET" ∷ ascii "Op0" ∷ ascii "Op2" ∷ ascii "Op1" ∷ ascii "TA" ∷ ascii "coproc"
+    ∷ ascii "AET" ∷ ascii "Op0" ∷ ascii "Op2" ∷ ascii "Op1" ∷ ascii "TA" ∷ ascii "coproc" ∷ ascii "0:FnV"
     ∷ []
 
 pub record Source : Type 0 where
@@ -39,7 +40,8 @@ sources =
     ∷ source 2 syndromeValidity ∷ source 4 sizes ∷ source 2 extensions ∷ source 2 widths ∷ source 2 semantics
     ∷ source 2 maintenance ∷ source 2 accesses ∷ source 2 stepValidity ∷ source 2 exclusives ∷ source 8 asynchronousTypes
     ∷ source 18 errorCodes ∷ source 2 systemDirections ∷ source 2 simdUses ∷ source 4 shortTypes ∷ source 26 reasons
-    ∷ source 5 injections
+    ∷ source 5 injections ∷ source 2 passValidity ∷ source 16 passNoCondition ∷ source 32 registers ∷ source 2 externalTypes
+    ∷ source 2 hifarValidity ∷ source 2 hdfarValidity
     ∷ []
 
 -- label n, and the values of list m

@@ -58,6 +58,71 @@ noCondition =
     ∷ means 15 "UNKNOWN"
     ∷ []
 
+-- CV and COND of an SMC, which are 0 where CCKNOWNPASS is 0
+abbrev pub passValidity : List Entry
+passValidity =
+    means 0 "The COND field is not valid, or CCKNOWNPASS is 0"
+    ∷ means 1 "The COND field is valid"
+    ∷ []
+
+abbrev pub passNoCondition : List Entry
+passNoCondition =
+    means 0 "UNKNOWN, or 0 where CCKNOWNPASS is 0"
+    ∷ means 1 "UNKNOWN"
+    ∷ means 2 "UNKNOWN"
+    ∷ means 3 "UNKNOWN"
+    ∷ means 4 "UNKNOWN"
+    ∷ means 5 "UNKNOWN"
+    ∷ means 6 "UNKNOWN"
+    ∷ means 7 "UNKNOWN"
+    ∷ means 8 "UNKNOWN"
+    ∷ means 9 "UNKNOWN"
+    ∷ means 10 "UNKNOWN"
+    ∷ means 11 "UNKNOWN"
+    ∷ means 12 "UNKNOWN"
+    ∷ means 13 "UNKNOWN"
+    ∷ means 14 "UNKNOWN"
+    ∷ means 15 "UNKNOWN"
+    ∷ []
+
+-- Rt, Rt2, Rn and SRT of the long form, which are the AArch64 view of an AArch32 register (the manual's mapping of the general-purpose
+-- registers between the Execution states)
+abbrev pub registers : List Entry
+registers =
+    means 0 "R0"
+    ∷ means 1 "R1"
+    ∷ means 2 "R2"
+    ∷ means 3 "R3"
+    ∷ means 4 "R4"
+    ∷ means 5 "R5"
+    ∷ means 6 "R6"
+    ∷ means 7 "R7"
+    ∷ means 8 "R8_usr"
+    ∷ means 9 "R9_usr"
+    ∷ means 10 "R10_usr"
+    ∷ means 11 "R11_usr"
+    ∷ means 12 "R12_usr"
+    ∷ means 13 "SP_usr"
+    ∷ means 14 "LR_usr"
+    ∷ means 15 "SP_hyp"
+    ∷ means 16 "LR_irq"
+    ∷ means 17 "SP_irq"
+    ∷ means 18 "LR_svc"
+    ∷ means 19 "SP_svc"
+    ∷ means 20 "LR_abt"
+    ∷ means 21 "SP_abt"
+    ∷ means 22 "LR_und"
+    ∷ means 23 "SP_und"
+    ∷ means 24 "R8_fiq"
+    ∷ means 25 "R9_fiq"
+    ∷ means 26 "R10_fiq"
+    ∷ means 27 "R11_fiq"
+    ∷ means 28 "R12_fiq"
+    ∷ means 29 "SP_fiq"
+    ∷ means 30 "LR_fiq"
+    ∷ means 31 "register 15 of the instruction"
+    ∷ []
+
 -- TI
 abbrev pub waits : List Entry
 waits =
@@ -119,11 +184,29 @@ errorTypes =
     ∷ means 3 "Restartable state (UEO)"
     ∷ []
 
--- FnV
+-- FnV of the long form, and of the short form's instruction and data aborts
 abbrev pub farValidity : List Entry
 farValidity =
     means 0 "FAR is valid"
     ∷ means 1 "FAR is not valid, and holds an UNKNOWN value"
+    ∷ []
+
+abbrev pub hifarValidity : List Entry
+hifarValidity =
+    means 0 "HIFAR is valid, where the code is 0x10"
+    ∷ means 1 "HIFAR is not valid, and holds an UNKNOWN value"
+    ∷ []
+
+abbrev pub hdfarValidity : List Entry
+hdfarValidity =
+    means 0 "HDFAR is valid, where the code is 0x10"
+    ∷ means 1 "HDFAR is not valid, and holds an UNKNOWN value"
+    ∷ []
+
+-- EA
+abbrev pub externalTypes : List Entry
+externalTypes =
+    means 1 "IMPLEMENTATION DEFINED classification of External aborts"
     ∷ []
 
 -- S1PTW
@@ -181,7 +264,7 @@ maintenance =
 abbrev pub accesses : List Entry
 accesses =
     means 0 "Read from a memory location"
-    ∷ means 1 "Write to a memory location"
+    ∷ means 1 "Write to a memory location, or CM is 1"
     ∷ []
 
 -- ISV of a Software Step
@@ -225,7 +308,7 @@ simdUses =
 -- AET of the short form, with DFSC 0x11
 abbrev pub shortTypes : List Entry
 shortTypes =
-    means 0 "Uncontainable error (UC) or uncategorized"
+    means 0 "Uncontainable error (UC) or uncategorized, where the board has RAS"
     ∷ means 1 "Unrecoverable error (UEU)"
     ∷ means 2 "Restartable error (UEO) or Corrected error (CE)"
     ∷ means 3 "Recoverable error (UER)"
@@ -235,7 +318,7 @@ shortTypes =
 -- long form alone, 21 to 25 of the short form alone
 abbrev pub reasons : List Entry
 reasons =
-    means 1 "a bit is set that belongs to no field of the class"
+    means 1 "a bit is set that belongs to no field that the build has in this class"
     ∷ means 2 "CV 24 is 1 and COND 23:20 is 0b1111"
     ∷ means 3 "Direction 0 is 0, and this class only reads"
     ∷ means 4 "AM 3:1 is reserved, or is a literal form and Direction 0 is 0"
@@ -243,21 +326,21 @@ reasons =
     ∷ means 6 "CCKNOWNPASS 19 is 0, and CV 24 or COND 23:20 is not"
     ∷ means 7 "FnV 10 is 1 and the fault code 5:0 is not 0x10"
     ∷ means 8 "EA 9 is 1 and the fault code 5:0 is not among 0x10 to 0x1f"
-    ∷ means 9 "S1PTW 7 is 1 and the fault code 5:0 is no MMU fault"
+    ∷ means 9 "S1PTW 7 is 1 and the fault code 5:0 is not among 0x00 to 0x0f, 0x29 and 0x2b"
     ∷ means 10 "ISV 24 is 0 and bits 23:14 are not"
-    ∷ means 11 "ISV 24 is 1, and the access is none of an AArch32 guest: SF 15 is 1, SAS 23:22 is 3, or SRT names no register of its own"
+    ∷ means 11 "ISV 24 is 1, and the access is none of an AArch32 guest: SF 15 is 1, SAS 23:22 is 3, or SRT 20:16 is 15 or 31"
     ∷ means 12 "ISV 24 is 1, and CM 8 or S1PTW 7 is 1"
     ∷ means 13 "SSE 21 is 1, and SAS 23:22 is above 1 or WnR 6 is 1"
     ∷ means 14 "CM 8 is 1 and WnR 6 is 0"
     ∷ means 15 "EX 6 is 1 and ISV 24 is 0"
-    ∷ means 16 "AET 12:10, EA 9 and DFSC 5:0 don't go together"
-    ∷ means 17 "no edition has the fault code 5:0"
+    ∷ means 16 "DFSC 5:0 is neither 0 with AET 12:10 and EA 9 0, nor 0x11 with an AET of 0 to 3 or 6"
+    ∷ means 17 "no edition has the fault code 5:0 in this class"
     ∷ means 18 "SET 12:11 is neither 0 nor, with the fault code 0x10, 2 or 3"
-    ∷ means 19 "ISV 24 is 1 and the fault code 5:0 doesn't go with it"
+    ∷ means 19 "ISV 24 is 1 and the fault code 5:0 is not among 0x00 to 0x0f, 0x13 to 0x17, 0x29 and 0x2b"
     ∷ means 20 "the fault code 5:0 is not 0x22, a debug exception"
-    ∷ means 21 "TA 5 and coproc 3:0 don't go together"
+    ∷ means 21 "TA 5 is 1 and coproc 3:0 is not 0b1010, or TA 5 is 0 and coproc 3:0 is not 0"
     ∷ means 22 "CM 8 is 1 in an SError interrupt"
-    ∷ means 23 "bits 11:10 and the fault code 5:0 don't go together"
+    ∷ means 23 "bits 11:10 are not 0, and the fault code 5:0 is neither 0x11 nor, with bits 11:10 1, 0x10"
     ∷ means 24 "ISV 24 is 1, and SAS 23:22 is 3 or SRT 19:16 is 15"
     ∷ means 25 "AET 11:10 is not 0, which needs RAS, and WnR 6 is 1, which RAS makes 0"
     ∷ []

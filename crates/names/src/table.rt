@@ -6,12 +6,12 @@ ghost use lib.ListN.{getD, take, drop};
 ghost use Rattle.text.specs.Append.{Appends};
 ghost use Rattle.names.specs.Table.{texts, lists, together};
 
-const LISTS: usize = 34;
+const LISTS: usize = 40;
 
 // The texts, one after the other: the labels, and then each list of meanings by the value.
-const BYTES: [u8; 7414] = *b"\
-    ECILCVCONDTIOpc2Opc1CRnRtCRmDirectionRt2imm8RnOffsetAMimm16CommentCCKNOWNPASSSETFnVEAS1PTWIFSCISVSASSSESRTSFARCMWnRDFSC\
-    EXAETOp0Op2Op1TAcoproc\
+const BYTES: [u8; 8520] = *b"\
+    ECILCVCONDTIOpc2Opc1CRnRtCRmDirectionRt2imm8RnOffsetAMimm16CommentCCKNOWNPASSSETFnVEAS1PTWIFSCISVSASSSESRTSFARCMWnRDFS\
+    CEXAETOp0Op2Op1TAcoproc0:FnV\
     : Unknown reason\
     : Trapped WFI or WFE instruction execution\
     : Trapped MCR or MRC access with coproc 0b1111\
@@ -30,7 +30,7 @@ const BYTES: [u8; 7414] = *b"\
     : SMC instruction execution in AArch64 state\
     : Trapped MSR, MRS or System instruction execution in AArch64 state\
     : Instruction Abort from a lower Exception level\
-    : PC alignment fault exception\
+    : PC alignment fault exception, IL of HSR is UNKNOWN\
     : Data Abort from a lower Exception level\
     : SError interrupt\
     : Breakpoint exception from a lower Exception level\
@@ -115,14 +115,14 @@ const BYTES: [u8; 7414] = *b"\
     : Permission fault, level 2\
     : Permission fault, level 3\
     : Synchronous External abort, not on translation table walk or hardware update of translation table\
-    : Asynchronous SError interrupt\
+    : SError interrupt, of which WnR says nothing\
     : Synchronous External abort on translation table walk or hardware update of translation table, level -1\
     : Synchronous External abort on translation table walk or hardware update of translation table, level 0\
     : Synchronous External abort on translation table walk or hardware update of translation table, level 1\
     : Synchronous External abort on translation table walk or hardware update of translation table, level 2\
     : Synchronous External abort on translation table walk or hardware update of translation table, level 3\
     : Synchronous parity or ECC error on memory access, not on translation table walk\
-    : Asynchronous SError interrupt, from a parity or ECC error on memory access\
+    : SError interrupt from a parity or ECC error on memory access, of which WnR says nothing\
     : Synchronous parity or ECC error on memory access on translation table walk or hardware update of translation table, level -1\
     : Synchronous parity or ECC error on memory access on translation table walk or hardware update of translation table, level 0\
     : Synchronous parity or ECC error on memory access on translation table walk or hardware update of translation table, level 1\
@@ -133,9 +133,9 @@ const BYTES: [u8; 7414] = *b"\
     : Address size fault, level -1\
     : Translation fault, level -1\
     : TLB conflict abort\
-    : Unsupported atomic hardware update fault\
+    : Unsupported atomic hardware update fault, WnR of a Data Abort is UNKNOWN\
     : IMPLEMENTATION DEFINED fault (Lockdown)\
-    : IMPLEMENTATION DEFINED fault (Unsupported Exclusive or Atomic access)\
+    : IMPLEMENTATION DEFINED fault (Unsupported Exclusive or Atomic access), WnR of ESR is UNKNOWN\
     : No valid instruction syndrome\
     : ISS[23:14] hold a valid instruction syndrome\
     : Byte\
@@ -151,7 +151,7 @@ const BYTES: [u8; 7414] = *b"\
     : Not from a cache maintenance or address translation instruction\
     : From a cache maintenance or address translation instruction\
     : Read from a memory location\
-    : Write to a memory location\
+    : Write to a memory location, or CM is 1\
     : EX bit is RES0\
     : EX bit is valid\
     : An instruction other than a Load-Exclusive instruction was stepped\
@@ -161,17 +161,17 @@ const BYTES: [u8; 7414] = *b"\
     : Restartable state (UEO)\
     : Recoverable state (UER)\
     : Corrected (CE)\
-    : Uncategorized error\
+    : Uncategorized error, where the board has RAS\
     : Asynchronous SError interrupt\
     : Write access, including MSR instructions\
     : Read access, including MRS instructions\
     : Exception was not caused by trapped use of Advanced SIMD functionality\
     : Exception was caused by trapped use of Advanced SIMD functionality\
-    : Uncontainable error (UC) or uncategorized\
+    : Uncontainable error (UC) or uncategorized, where the board has RAS\
     : Unrecoverable error (UEU)\
     : Restartable error (UEO) or Corrected error (CE)\
     : Recoverable error (UER)\
-    : a bit is set that belongs to no field of the class\
+    : a bit is set that belongs to no field that the build has in this class\
     : CV 24 is 1 and COND 23:20 is 0b1111\
     : Direction 0 is 0, and this class only reads\
     : AM 3:1 is reserved, or is a literal form and Direction 0 is 0\
@@ -179,21 +179,21 @@ const BYTES: [u8; 7414] = *b"\
     : CCKNOWNPASS 19 is 0, and CV 24 or COND 23:20 is not\
     : FnV 10 is 1 and the fault code 5:0 is not 0x10\
     : EA 9 is 1 and the fault code 5:0 is not among 0x10 to 0x1f\
-    : S1PTW 7 is 1 and the fault code 5:0 is no MMU fault\
+    : S1PTW 7 is 1 and the fault code 5:0 is not among 0x00 to 0x0f, 0x29 and 0x2b\
     : ISV 24 is 0 and bits 23:14 are not\
-    : ISV 24 is 1, and the access is none of an AArch32 guest: SF 15 is 1, SAS 23:22 is 3, or SRT names no register of its own\
+    : ISV 24 is 1, and the access is none of an AArch32 guest: SF 15 is 1, SAS 23:22 is 3, or SRT 20:16 is 15 or 31\
     : ISV 24 is 1, and CM 8 or S1PTW 7 is 1\
     : SSE 21 is 1, and SAS 23:22 is above 1 or WnR 6 is 1\
     : CM 8 is 1 and WnR 6 is 0\
     : EX 6 is 1 and ISV 24 is 0\
-    : AET 12:10, EA 9 and DFSC 5:0 don't go together\
-    : no edition has the fault code 5:0\
+    : DFSC 5:0 is neither 0 with AET 12:10 and EA 9 0, nor 0x11 with an AET of 0 to 3 or 6\
+    : no edition has the fault code 5:0 in this class\
     : SET 12:11 is neither 0 nor, with the fault code 0x10, 2 or 3\
-    : ISV 24 is 1 and the fault code 5:0 doesn't go with it\
+    : ISV 24 is 1 and the fault code 5:0 is not among 0x00 to 0x0f, 0x13 to 0x17, 0x29 and 0x2b\
     : the fault code 5:0 is not 0x22, a debug exception\
-    : TA 5 and coproc 3:0 don't go together\
+    : TA 5 is 1 and coproc 3:0 is not 0b1010, or TA 5 is 0 and coproc 3:0 is not 0\
     : CM 8 is 1 in an SError interrupt\
-    : bits 11:10 and the fault code 5:0 don't go together\
+    : bits 11:10 are not 0, and the fault code 5:0 is neither 0x11 nor, with bits 11:10 1, 0x10\
     : ISV 24 is 1, and SAS 23:22 is 3 or SRT 19:16 is 15\
     : AET 11:10 is not 0, which needs RAS, and WnR 6 is 1, which RAS makes 0\
     : Undefined Instruction, PC at the instruction\
@@ -201,10 +201,65 @@ const BYTES: [u8; 7414] = *b"\
     : Supervisor Call\
     : Prefetch Abort\
     : Data Abort\
+    : The COND field is not valid, or CCKNOWNPASS is 0\
+    : The COND field is valid\
+    : UNKNOWN, or 0 where CCKNOWNPASS is 0\
+    : UNKNOWN\
+    : UNKNOWN\
+    : UNKNOWN\
+    : UNKNOWN\
+    : UNKNOWN\
+    : UNKNOWN\
+    : UNKNOWN\
+    : UNKNOWN\
+    : UNKNOWN\
+    : UNKNOWN\
+    : UNKNOWN\
+    : UNKNOWN\
+    : UNKNOWN\
+    : UNKNOWN\
+    : UNKNOWN\
+    : R0\
+    : R1\
+    : R2\
+    : R3\
+    : R4\
+    : R5\
+    : R6\
+    : R7\
+    : R8_usr\
+    : R9_usr\
+    : R10_usr\
+    : R11_usr\
+    : R12_usr\
+    : SP_usr\
+    : LR_usr\
+    : SP_hyp\
+    : LR_irq\
+    : SP_irq\
+    : LR_svc\
+    : SP_svc\
+    : LR_abt\
+    : SP_abt\
+    : LR_und\
+    : SP_und\
+    : R8_fiq\
+    : R9_fiq\
+    : R10_fiq\
+    : R11_fiq\
+    : R12_fiq\
+    : SP_fiq\
+    : LR_fiq\
+    : register 15 of the instruction\
+    : IMPLEMENTATION DEFINED classification of External aborts\
+    : HIFAR is valid, where the code is 0x10\
+    : HIFAR is not valid, and holds an UNKNOWN value\
+    : HDFAR is valid, where the code is 0x10\
+    : HDFAR is not valid, and holds an UNKNOWN value\
     ";
 
 // Where each text starts, and where the last ends.
-const STARTS: [u16; 307] = [
+const STARTS: [u16; 364] = [
     0,
     2,
     4,
@@ -246,91 +301,89 @@ const STARTS: [u16; 307] = [
     133,
     135,
     141,
-    157,
-    199,
-    199,
-    245,
-    293,
-    339,
-    366,
-    431,
-    472,
-    472,
-    472,
-    472,
-    512,
-    512,
-    537,
-    537,
-    537,
-    581,
-    625,
-    669,
-    669,
-    713,
-    757,
-    801,
-    868,
-    868,
-    868,
-    868,
-    868,
-    868,
-    868,
-    868,
-    916,
-    916,
-    946,
-    946,
-    987,
-    987,
-    987,
-    987,
-    987,
-    987,
-    987,
-    987,
-    987,
-    987,
-    987,
-    1005,
-    1056,
-    1056,
-    1110,
-    1110,
-    1161,
-    1161,
-    1161,
-    1161,
-    1206,
-    1206,
-    1249,
-    1249,
-    1249,
-    1249,
-    1249,
-    1249,
-    1277,
-    1342,
-    1371,
-    1396,
-    1400,
-    1404,
-    1408,
-    1412,
-    1416,
-    1420,
-    1424,
-    1428,
-    1432,
-    1436,
-    1440,
-    1444,
-    1448,
-    1452,
-    1456,
-    1465,
-    1474,
+    146,
+    162,
+    204,
+    204,
+    250,
+    298,
+    344,
+    371,
+    436,
+    477,
+    477,
+    477,
+    477,
+    517,
+    517,
+    542,
+    542,
+    542,
+    586,
+    630,
+    674,
+    674,
+    718,
+    762,
+    806,
+    873,
+    873,
+    873,
+    873,
+    873,
+    873,
+    873,
+    873,
+    921,
+    921,
+    973,
+    973,
+    1014,
+    1014,
+    1014,
+    1014,
+    1014,
+    1014,
+    1014,
+    1014,
+    1014,
+    1014,
+    1014,
+    1032,
+    1083,
+    1083,
+    1137,
+    1137,
+    1188,
+    1188,
+    1188,
+    1188,
+    1233,
+    1233,
+    1276,
+    1276,
+    1276,
+    1276,
+    1276,
+    1276,
+    1304,
+    1369,
+    1398,
+    1423,
+    1427,
+    1431,
+    1435,
+    1439,
+    1443,
+    1447,
+    1451,
+    1455,
+    1459,
+    1463,
+    1467,
+    1471,
+    1475,
+    1479,
     1483,
     1492,
     1501,
@@ -345,212 +398,277 @@ const STARTS: [u16; 307] = [
     1582,
     1591,
     1600,
-    1613,
-    1626,
-    1675,
-    1733,
-    1783,
-    1834,
-    1851,
-    1863,
-    1884,
-    1908,
-    1926,
-    1949,
-    1983,
-    1983,
-    2014,
-    2014,
-    2048,
-    2083,
-    2154,
-    2235,
-    2306,
-    2306,
-    2326,
-    2351,
-    2365,
-    2411,
-    2484,
-    2568,
-    2647,
-    2676,
-    2705,
-    2734,
-    2762,
-    2790,
-    2818,
-    2846,
-    2874,
-    2902,
-    2930,
-    2958,
+    1609,
+    1618,
+    1627,
+    1640,
+    1653,
+    1702,
+    1760,
+    1810,
+    1861,
+    1878,
+    1890,
+    1911,
+    1935,
+    1953,
+    1976,
+    2010,
+    2010,
+    2041,
+    2041,
+    2075,
+    2110,
+    2181,
+    2262,
+    2333,
+    2333,
+    2353,
+    2378,
+    2392,
+    2438,
+    2511,
+    2595,
+    2674,
+    2703,
+    2732,
+    2761,
+    2789,
+    2817,
+    2845,
+    2873,
+    2901,
+    2929,
+    2957,
     2985,
     3012,
     3039,
     3066,
-    3165,
-    3196,
-    3196,
-    3300,
-    3403,
-    3506,
-    3609,
-    3712,
-    3793,
-    3869,
-    3869,
-    3995,
-    4120,
-    4245,
-    4370,
-    4495,
-    4495,
-    4512,
-    4529,
-    4529,
-    4529,
-    4529,
-    4529,
-    4529,
-    4529,
-    4559,
-    4559,
-    4588,
-    4588,
-    4588,
-    4588,
-    4588,
-    4608,
-    4650,
-    4650,
-    4650,
-    4691,
-    4762,
-    4793,
-    4839,
-    4845,
-    4855,
-    4861,
-    4873,
+    3093,
+    3192,
+    3237,
+    3237,
+    3341,
+    3444,
+    3547,
+    3650,
+    3753,
+    3834,
+    3923,
+    3923,
+    4049,
+    4174,
+    4299,
+    4424,
+    4549,
+    4549,
+    4566,
+    4583,
+    4583,
+    4583,
+    4583,
+    4583,
+    4583,
+    4583,
+    4613,
+    4613,
+    4642,
+    4642,
+    4642,
+    4642,
+    4642,
+    4662,
+    4736,
+    4736,
+    4736,
+    4777,
+    4871,
     4902,
-    4935,
-    4984,
-    5033,
-    5085,
-    5133,
-    5198,
-    5259,
-    5288,
-    5316,
-    5332,
-    5349,
-    5417,
-    5459,
-    5499,
-    5526,
-    5551,
-    5576,
-    5576,
-    5576,
-    5592,
-    5592,
-    5613,
-    5613,
-    5613,
-    5613,
-    5613,
-    5613,
-    5613,
-    5613,
-    5613,
-    5613,
-    5613,
-    5613,
-    5613,
-    5613,
-    5613,
-    5613,
-    5613,
-    5644,
-    5686,
-    5727,
-    5799,
-    5867,
-    5910,
-    5937,
-    5986,
-    6011,
-    6011,
-    6063,
-    6100,
-    6145,
-    6208,
-    6256,
-    6309,
-    6357,
-    6417,
-    6470,
-    6506,
-    6628,
-    6667,
-    6720,
-    6746,
-    6773,
-    6821,
-    6856,
-    6918,
-    6973,
-    7024,
-    7063,
-    7097,
-    7150,
-    7202,
-    7274,
-    7320,
-    7369,
-    7386,
-    7402,
-    7414,
+    4948,
+    4954,
+    4964,
+    4970,
+    4982,
+    5011,
+    5044,
+    5093,
+    5142,
+    5194,
+    5242,
+    5307,
+    5368,
+    5397,
+    5437,
+    5453,
+    5470,
+    5538,
+    5580,
+    5620,
+    5647,
+    5672,
+    5697,
+    5697,
+    5697,
+    5713,
+    5713,
+    5759,
+    5759,
+    5759,
+    5759,
+    5759,
+    5759,
+    5759,
+    5759,
+    5759,
+    5759,
+    5759,
+    5759,
+    5759,
+    5759,
+    5759,
+    5759,
+    5759,
+    5790,
+    5832,
+    5873,
+    5945,
+    6013,
+    6081,
+    6108,
+    6157,
+    6182,
+    6182,
+    6254,
+    6291,
+    6336,
+    6399,
+    6447,
+    6500,
+    6548,
+    6608,
+    6686,
+    6722,
+    6833,
+    6872,
+    6925,
+    6951,
+    6978,
+    7064,
+    7113,
+    7175,
+    7266,
+    7317,
+    7395,
+    7429,
+    7520,
+    7572,
+    7644,
+    7690,
+    7739,
+    7756,
+    7772,
+    7784,
+    7834,
+    7859,
+    7897,
+    7906,
+    7915,
+    7924,
+    7933,
+    7942,
+    7951,
+    7960,
+    7969,
+    7978,
+    7987,
+    7996,
+    8005,
+    8014,
+    8023,
+    8032,
+    8036,
+    8040,
+    8044,
+    8048,
+    8052,
+    8056,
+    8060,
+    8064,
+    8072,
+    8080,
+    8089,
+    8098,
+    8107,
+    8115,
+    8123,
+    8131,
+    8139,
+    8147,
+    8155,
+    8163,
+    8171,
+    8179,
+    8187,
+    8195,
+    8203,
+    8211,
+    8220,
+    8229,
+    8238,
+    8246,
+    8254,
+    8286,
+    8286,
+    8344,
+    8384,
+    8432,
+    8472,
+    8520,
 ];
 
 // The first text of each list, the labels first, and the end of the last.
-const FIRSTS: [u16; 35] = [
+const FIRSTS: [u16; 41] = [
     0,
-    40,
-    40,
-    104,
-    106,
-    108,
-    123,
-    139,
-    141,
-    143,
-    145,
-    147,
-    155,
-    157,
-    159,
-    163,
-    165,
-    167,
-    221,
-    223,
-    227,
-    229,
-    231,
-    233,
-    235,
-    237,
-    239,
-    241,
-    249,
-    267,
-    269,
-    271,
-    275,
-    301,
-    306,
+    41,
+    41,
+    105,
+    107,
+    109,
+    124,
+    140,
+    142,
+    144,
+    146,
+    148,
+    156,
+    158,
+    160,
+    164,
+    166,
+    168,
+    222,
+    224,
+    228,
+    230,
+    232,
+    234,
+    236,
+    238,
+    240,
+    242,
+    250,
+    268,
+    270,
+    272,
+    276,
+    302,
+    307,
+    309,
+    325,
+    357,
+    359,
+    361,
+    363,
 ];
 
 fn wide(n: u16) -> usize
@@ -561,7 +679,7 @@ fn wide(n: u16) -> usize
 
 // Appends the bytes from `start` to `end`.
 fn cut(out: &mut [u8], at: usize, start: usize, end: usize) -> usize
-    requires { ⌜ (start ≤ end) × (end ≤ 7414) ⌝ }
+    requires { ⌜ (start ≤ end) × (end ≤ 8520) ⌝ }
     ensures { λ last. ⌜ Appends (take (end - start) (drop start (together texts))) (now (out .entry)) at (now (out .exit)) last ⌝ }
 {
     let bytes = BYTES;
@@ -570,7 +688,7 @@ fn cut(out: &mut [u8], at: usize, start: usize, end: usize) -> usize
 
 // Appends text n.
 fn text_at(out: &mut [u8], at: usize, n: usize) -> usize
-    requires { ⌜ n < 306 ⌝ }
+    requires { ⌜ n < 363 ⌝ }
     ensures { λ end. ⌜ Appends (getD texts n []) (now (out .entry)) at (now (out .exit)) end ⌝ }
 {
     let start = wide(STARTS[n]);

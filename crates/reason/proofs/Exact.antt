@@ -31,7 +31,7 @@ use Rattle.reason.specs.Reason.{someCode, someSet, someSyndrome, ruleTes
 use Rattle.reason.proofs.Fits.{fits-at}
 use Rattle.reason.proofs.Tests.{numbered, all-passed, of-some-test}
 
-abbrev o : Origin
+abbrev pub o : Origin
 o = Origin.AArch32
 
 -- ---- the numbers of the tests

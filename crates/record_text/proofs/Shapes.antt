@@ -9,6 +9,7 @@ use Rattle.bits.specs.Field.{digit}
 use Rattle.bits.specs.Layout.{Field}
 use Rattle.bits.proofs.Among.{among-each}
 use Rattle.names.specs.Name.{Name}
+use Rattle.names.specs.Value.{registers}
 use Rattle.names.specs.Table.{labels, sources, labelAt, valuesAt}
 use Rattle.field_text.specs.Rows.{rowLabels, rowHighs, rowLows, rowLists, rowAt, shapeFirsts, shapeCounts, shapeRows}
 use Rattle.field_text.proofs.Fields.{rowsOf}
@@ -56,16 +57,16 @@ rows-agree (Record.Plain r) own b =
     b
 rows-agree (Record.Wfx r) own b = both (λ t. At 0x01 t (wfxNames t) (fieldsOf (Record.Wfx r))) refl refl (r .cv)
 rows-agree (Record.Mcr r) own b =
-    both (λ t. At (r .class) t (mcrNames t) (fieldsOf (Record.Mcr r)))
-    (among-each mcrClasses (λ c. At c true (mcrNames true) (fieldsOf (Record.Mcr r))) (refl, (refl, (refl, tt))) (r .class) own)
-    (among-each mcrClasses (λ c. At c false (mcrNames false) (fieldsOf (Record.Mcr r))) (refl, (refl, (refl, tt))) (r .class) own)
+    both (λ t. At (r .class) t (mcrNames registers t) (fieldsOf (Record.Mcr r)))
+    (among-each mcrClasses (λ c. At c true (mcrNames registers true) (fieldsOf (Record.Mcr r))) (refl, (refl, (refl, tt))) (r .class) own)
+    (among-each mcrClasses (λ c. At c false (mcrNames registers false) (fieldsOf (Record.Mcr r))) (refl, (refl, (refl, tt))) (r .class) own)
     (r .cv)
 rows-agree (Record.Mcrr r) own b =
-    both (λ t. At (r .class) t (mcrrNames t) (fieldsOf (Record.Mcrr r)))
-    (among-each mcrrClasses (λ c. At c true (mcrrNames true) (fieldsOf (Record.Mcrr r))) (refl, (refl, tt)) (r .class) own)
-    (among-each mcrrClasses (λ c. At c false (mcrrNames false) (fieldsOf (Record.Mcrr r))) (refl, (refl, tt)) (r .class) own)
+    both (λ t. At (r .class) t (mcrrNames registers t) (fieldsOf (Record.Mcrr r)))
+    (among-each mcrrClasses (λ c. At c true (mcrrNames registers true) (fieldsOf (Record.Mcrr r))) (refl, (refl, tt)) (r .class) own)
+    (among-each mcrrClasses (λ c. At c false (mcrrNames registers false) (fieldsOf (Record.Mcrr r))) (refl, (refl, tt)) (r .class) own)
     (r .cv)
-rows-agree (Record.Ldc r) own b = both (λ t. At 0x06 t (ldcNames t) (fieldsOf (Record.Ldc r))) refl refl (r .cv)
+rows-agree (Record.Ldc r) own b = both (λ t. At 0x06 t (ldcNames registers t) (fieldsOf (Record.Ldc r))) refl refl (r .cv)
 rows-agree (Record.Simd r) own b = both (λ t. At 0x07 t (simdNames t) (fieldsOf (Record.Simd r))) refl refl (r .cv)
 rows-agree (Record.Call r) own b =
     both (λ t. At (r .class) t (callNames (r .class)) (fieldsOf (Record.Call r)))

@@ -8,9 +8,10 @@ use Prim.Native.Nat.{ℕ}
 use Rattle.names.specs.Name.{Entry, Name, named}
 use Rattle.names.specs.Class.{classes}
 use Rattle.names.specs.Code.{faultCodes, errorCodes}
-use Rattle.names.specs.Value.{lengths, validity, conditions, noCondition, waits, mcrDirections, mcrrDirections, offsets, addressingModes}
-use Rattle.names.specs.Value.{ldcDirections, passes, errorTypes, farValidity, walks, syndromeValidity, sizes, extensions, widths, semantics}
-use Rattle.names.specs.Value.{maintenance, accesses, stepValidity, exclusives, asynchronousTypes, systemDirections}
+use Rattle.names.specs.Value.{lengths, validity, conditions, noCondition, passValidity, passNoCondition, registers, waits, mcrDirections}
+use Rattle.names.specs.Value.{mcrrDirections, offsets, addressingModes, ldcDirections, passes, errorTypes, farValidity, externalTypes, walks}
+use Rattle.names.specs.Value.{syndromeValidity, sizes, extensions, widths, semantics, maintenance, accesses, stepValidity, exclusives}
+use Rattle.names.specs.Value.{asynchronousTypes, systemDirections}
 use Rattle.record.specs.declared.kinds.Record.{Record}
 
 -- nothing is said of the values of a field
@@ -27,24 +28,26 @@ condition cv rest = named "CV" validity ∷ named "COND" (cond cv conditions noC
 abbrev pub wfxNames : Bool → List Name
 wfxNames cv = head (condition cv (named "TI" waits ∷ []))
 
-abbrev pub mcrNames : Bool → List Name
-mcrNames cv =
+-- what is said of a register is the form's
+abbrev pub mcrNames : List Entry → Bool → List Name
+mcrNames register cv =
     head
     (condition cv
-    (named "Opc2" plain ∷ named "Opc1" plain ∷ named "CRn" plain ∷ named "Rt" plain ∷ named "CRm" plain
+    (named "Opc2" plain ∷ named "Opc1" plain ∷ named "CRn" plain ∷ named "Rt" register ∷ named "CRm" plain
     ∷ named "Direction" mcrDirections ∷ []))
 
-abbrev pub mcrrNames : Bool → List Name
-mcrrNames cv =
+abbrev pub mcrrNames : List Entry → Bool → List Name
+mcrrNames register cv =
     head
     (condition cv
-    (named "Opc1" plain ∷ named "Rt2" plain ∷ named "Rt" plain ∷ named "CRm" plain ∷ named "Direction" mcrrDirections ∷ []))
+    (named "Opc1" plain ∷ named "Rt2" register ∷ named "Rt" register ∷ named "CRm" plain ∷ named "Direction" mcrrDirections ∷ []))
 
-abbrev pub ldcNames : Bool → List Name
-ldcNames cv =
+abbrev pub ldcNames : List Entry → Bool → List Name
+ldcNames register cv =
     head
     (condition cv
-    (named "imm8" plain ∷ named "Rn" plain ∷ named "Offset" offsets ∷ named "AM" addressingModes ∷ named "Direction" ldcDirections ∷ []))
+    (named "imm8" plain ∷ named "Rn" register ∷ named "Offset" offsets ∷ named "AM" addressingModes ∷ named "Direction" ldcDirections
+    ∷ []))
 
 abbrev pub simdNames : Bool → List Name
 simdNames cv = head (condition cv [])
@@ -54,12 +57,12 @@ abbrev pub callNames : ℕ → List Name
 callNames class = head (named (cond (eqb class 0x38) "Comment" "imm16") plain ∷ [])
 
 abbrev pub smcNames : Bool → List Name
-smcNames cv = head (condition cv (named "CCKNOWNPASS" passes ∷ []))
+smcNames cv = head (named "CV" passValidity ∷ named "COND" (cond cv conditions passNoCondition) ∷ named "CCKNOWNPASS" passes ∷ [])
 
 abbrev pub instructionAbortNames : List Name
 instructionAbortNames =
     head
-    (named "SET" errorTypes ∷ named "FnV" farValidity ∷ named "EA" plain ∷ named "S1PTW" walks ∷ named "IFSC" faultCodes ∷ [])
+    (named "SET" errorTypes ∷ named "FnV" farValidity ∷ named "EA" externalTypes ∷ named "S1PTW" walks ∷ named "IFSC" faultCodes ∷ [])
 
 -- ISS[23:14] says something where ISV is 1
 abbrev pub valid : Bool → List Entry → List Entry
@@ -68,9 +71,10 @@ valid isv values = cond isv values plain
 abbrev pub dataAbortNames : Bool → List Name
 dataAbortNames isv =
     head
-    (named "ISV" syndromeValidity ∷ named "SAS" (valid isv sizes) ∷ named "SSE" (valid isv extensions) ∷ named "SRT" plain
+    (named "ISV" syndromeValidity ∷ named "SAS" (valid isv sizes) ∷ named "SSE" (valid isv extensions)
+    ∷ named "SRT" (valid isv registers)
     ∷ named "SF" (valid isv widths) ∷ named "AR" (valid isv semantics) ∷ named "SET" errorTypes ∷ named "FnV" farValidity
-    ∷ named "EA" plain ∷ named "CM" maintenance ∷ named "S1PTW" walks ∷ named "WnR" accesses ∷ named "DFSC" faultCodes ∷ [])
+    ∷ named "EA" externalTypes ∷ named "CM" maintenance ∷ named "S1PTW" walks ∷ named "WnR" accesses ∷ named "DFSC" faultCodes ∷ [])
 
 abbrev pub debugNames : List Name
 debugNames = head (named "IFSC" faultCodes ∷ [])
@@ -83,7 +87,7 @@ abbrev pub watchpointNames : List Name
 watchpointNames = head (named "CM" maintenance ∷ named "WnR" accesses ∷ named "DFSC" faultCodes ∷ [])
 
 abbrev pub serrorNames : List Name
-serrorNames = head (named "AET" asynchronousTypes ∷ named "EA" plain ∷ named "DFSC" errorCodes ∷ [])
+serrorNames = head (named "AET" asynchronousTypes ∷ named "EA" externalTypes ∷ named "DFSC" errorCodes ∷ [])
 
 abbrev pub systemNames : List Name
 systemNames =
@@ -94,9 +98,9 @@ systemNames =
 abbrev pub namesOf : Record → List Name
 namesOf (Record.Plain r) = head []
 namesOf (Record.Wfx r) = wfxNames (r .cv)
-namesOf (Record.Mcr r) = mcrNames (r .cv)
-namesOf (Record.Mcrr r) = mcrrNames (r .cv)
-namesOf (Record.Ldc r) = ldcNames (r .cv)
+namesOf (Record.Mcr r) = mcrNames registers (r .cv)
+namesOf (Record.Mcrr r) = mcrrNames registers (r .cv)
+namesOf (Record.Ldc r) = ldcNames registers (r .cv)
 namesOf (Record.Simd r) = simdNames (r .cv)
 namesOf (Record.Call r) = callNames (r .class)
 namesOf (Record.Smc r) = smcNames (r .cv)

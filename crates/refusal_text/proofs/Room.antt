@@ -60,7 +60,8 @@ pub refusal-length : (short : Bool) (refusal : Refusal) → length (refusalText 
 refusal-length true UnknownEdition = omega arith
 refusal-length false UnknownEdition = omega arith
 refusal-length short UpperHalf = omega arith
-refusal-length short UnknownClass = omega arith
+refusal-length true UnknownClass = omega arith
+refusal-length false UnknownClass = omega arith
 refusal-length short ShortInstruction = omega arith
 refusal-length short NoEdition = omega arith
 refusal-length short (OtherEditions mask count) =

@@ -21,8 +21,10 @@ editionsText n mask = ascii "editions" ++ editionsBelow n mask ++ ascii "\n"
 
 abbrev pub refusalText : Bool → Refusal → List ℕ
 refusalText short UnknownEdition = cond short (ascii "refused 1: the edition is above 1\n") (ascii "refused 1: the edition is above 15\n")
-refusalText short UpperHalf = ascii "refused 2: bits 63:32 are not zero\n"
-refusalText short UnknownClass = ascii "refused 3: EC 31:26 is no class of the build\n"
+refusalText short UpperHalf = ascii "refused 2: bits 63:32 of the syndrome are not zero\n"
+refusalText short UnknownClass =
+    cond short (ascii "refused 3: EC 31:26 is no class of the build in the short form\n")
+    (ascii "refused 3: EC 31:26 is no class of the build from AArch32\n")
 refusalText short ShortInstruction = ascii "refused 4: IL 25 is 0 where it must be 1\n"
 refusalText short NoEdition = ascii "refused 5: no edition has it\n"
 refusalText short (OtherEditions mask count) =

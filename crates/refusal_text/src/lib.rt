@@ -92,16 +92,36 @@ fn unknown_edition(out: &mut [u8], at: usize, short: bool) -> usize
     }
 }
 
-// Why a word is refused, in the short form or in the long one.
+fn unknown_class(out: &mut [u8], at: usize, short: bool) -> usize
+    ensures { λ end. ⌜ Appends (refusalText short Refusal.UnknownClass) (now (out .entry)) at (now (out .exit)) end ⌝ }
+{
+    if short {
+        text::append(
+            out,
+            at,
+            b"refused 3: EC 31:26 is no class of the build in the short form\n",
+        )
+    } else {
+        text::append(
+            out,
+            at,
+            b"refused 3: EC 31:26 is no class of the build from AArch32\n",
+        )
+    }
+}
+
+// Why a word is refused, in the short form or in the long one, of which the words are from AArch32.
 pub fn refusal_lines(out: &mut [u8], at: usize, short: bool, refusal: Refusal) -> usize
     ensures { λ end. ⌜ Appends (refusalText short refusal) (now (out .entry)) at (now (out .exit)) end ⌝ }
 {
     match refusal {
         Refusal::UnknownEdition => unknown_edition(out, at, short),
-        Refusal::UpperHalf => text::append(out, at, b"refused 2: bits 63:32 are not zero\n"),
-        Refusal::UnknownClass => {
-            text::append(out, at, b"refused 3: EC 31:26 is no class of the build\n")
-        }
+        Refusal::UpperHalf => text::append(
+            out,
+            at,
+            b"refused 2: bits 63:32 of the syndrome are not zero\n",
+        ),
+        Refusal::UnknownClass => unknown_class(out, at, short),
         Refusal::ShortInstruction => {
             text::append(out, at, b"refused 4: IL 25 is 0 where it must be 1\n")
         }

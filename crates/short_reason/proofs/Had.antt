@@ -2,16 +2,18 @@
 -- Assumes nothing.
 use mathlib.Core.Path.{_≡_, refl, sym, ap, _∙_}
 use mathlib.Core.Bool.{Bool, true, false, not, _&&_, _||_, true≢false}
+use mathlib.Core.List.{[], _∷_}
 use Prim.Native.Nat.{ℕ}
 use borrow.Author.Tests.{eqb-true}
 use lib.Dec.{eqb}
-use Rattle.bits.specs.Decide.{AllPass}
+use Rattle.bits.specs.Decide.{needs, AllPass}
 use Rattle.bits.proofs.Booleans.{and-left, and-right, not-true-false}
 use Rattle.bits.proofs.Deciding.{all-pass}
 use Rattle.edition.specs.Feature.{ras}
 use Rattle.iss.specs.Rule.{implies, between, mmuFault, conditionRule, directionRule, addressingRule, passedRule}
 use Rattle.iss.specs.Rule.{externalRule, walkRule, extensionRule, maintenanceRule, isvCode}
 use Rattle.reason.proofs.Exact.{add}
+use Rattle.reason.proofs.Had.{allowed-some, syndrome-some, two, valid-parts, abort-passed}
 use Rattle.short_layout.specs.Fields.{recordWord}
 use Rattle.short_record.specs.Split.{recordAt}
 use Rattle.short_record.specs.declared.kinds.DataAbort.{DataAbort}
@@ -19,34 +21,13 @@ use Rattle.short_record.specs.declared.kinds.Record.{Record}
 use Rattle.short_rule.specs.Edition.{isEdition}
 use Rattle.short_rule.specs.Rule.{coprocRule, asynchronous, noSyndromeRule, validSyndromeRule, syndromeRule, asynchronousRule}
 use Rattle.short_rule.specs.Rule.{dataRule, layoutRule}
-use Rattle.short_rule.specs.Code.{everywhere, withoutRas, dataOnlyCode, dataCode, aetRule, wnrRule, editionRule}
+use Rattle.short_rule.specs.Code.{everywhere, withoutRas, dataOnlyCode, instructionCode, dataCode, aetRule, wnrRule, editionRule}
 use Rattle.short_rule.specs.Has.{lawful, has}
 use Rattle.short_rule.proofs.Having.{has-layout}
-use Rattle.short_reason.specs.Reason.{someWnr, accessRule, ruleTests, wordTests, whyOf}
+use Rattle.short_reason.specs.Reason.{someCode, someDataCode, someWnr, accessRule, ruleTests, wordTests, whyOf}
 use Rattle.short_reason.proofs.Exact.{plainAet}
 
 -- ---- what an edition allows, some edition allows
-
-code-some : (r a b : Bool) → (a || not r && b) ≡ true → (a || b) ≡ true
-code-some r true b h = refl
-code-some true false b h = absurd (true≢false (sym h))
-code-some false false b h = h
-
-data-code-some : (r a b d f : Bool) → (((a || not r && b) || d) || not r && f) ≡ true → (((a || b) || d) || f) ≡ true
-data-code-some false a b d f h = h
-data-code-some true true b d f h = refl
-data-code-some true false true d f h = refl
-data-code-some true false false true f h = refl
-data-code-some true false false false f h = absurd (true≢false (sym h))
-
-aet-some : (r a b : Bool) → (a || r && b) ≡ true → (a || b) ≡ true
-aet-some true a b h = h
-aet-some false true b h = refl
-aet-some false false b h = absurd (true≢false (sym h))
-
-syndrome-some : (r isv a b : Bool) → implies isv (a || not r && b) ≡ true → implies isv (a || b) ≡ true
-syndrome-some r false a b h = refl
-syndrome-some r true a b h = code-some r a b h
 
 -- an SError interrupt hasn't code 0x10, so that its bits 11:10 are 0 without RAS
 other-code : (code : ℕ) → asynchronous code ≡ true → eqb code 0x10 ≡ false
@@ -70,16 +51,15 @@ wnr-some r aet wnr code type′ write = go r (asynchronous code && wnr) refl typ
 
 -- ---- every test of a record that an edition has passes
 
-two : (a b : Bool) → (a && b) ≡ true → (a ≡ true) × ((b ≡ true) × Unit {0})
-two a b h = (and-left a b h, (and-right a b h, tt))
-
-valid-parts : (isv access cm s1ptw : Bool) → implies isv ((access && not cm) && not s1ptw) ≡ true
-    → (implies isv access ≡ true) × (implies isv (not cm && not s1ptw) ≡ true)
-valid-parts false access cm s1ptw h = (refl, refl)
-valid-parts true true cm s1ptw h = (refl, h)
-valid-parts true false cm s1ptw h = absurd (true≢false (sym h))
-
 module _ (e : ℕ) where
+  code-some : (code : ℕ) → instructionCode e code ≡ true → someCode code ≡ true
+  code-some code = allowed-some (everywhere code) (everywhere code) (not (ras e)) (withoutRas code) (λ same. same)
+
+  data-code-some : (code : ℕ) → dataCode e code ≡ true → someDataCode code ≡ true
+  data-code-some code =
+      allowed-some (instructionCode e code || dataOnlyCode code) (someCode code || dataOnlyCode code) (not (ras e)) (eqb code 0x19)
+      (allowed-some (instructionCode e code) (someCode code) true (dataOnlyCode code) (code-some code))
+
   data-passed : (r : DataAbort) → dataRule r ≡ true → editionRule e (Record.DataAbort r) ≡ true → AllPass (ruleTests (Record.DataAbort r))
   data-passed r rules had =
       let external = externalRule (r .ea) (r .code) in
@@ -109,9 +89,8 @@ module _ (e : ℕ) where
       (add (and-right (external && walk && syndrome && interrupt) extension five)
       (add (and-right (external && walk && syndrome && interrupt && extension) maintenance rules)
       (add
-      (data-code-some (ras e) (everywhere (r .code)) (withoutRas (r .code)) (dataOnlyCode (r .code)) (eqb (r .code) 0x19)
-      (and-left code aet had-two))
-      (add (aet-some (ras e) (plainAet (r .aet) (r .code)) (eqb (r .code) 0x11) had-aet)
+      (data-code-some (r .code) (and-left code aet had-two))
+      (add (allowed-some (plainAet (r .aet) (r .code)) (plainAet (r .aet) (r .code)) (ras e) (eqb (r .code) 0x11) (λ same. same) had-aet)
       (add (wnr-some (ras e) (r .aet) (r .wnr) (r .code) had-aet (and-right (code && aet) wnr had-three))
       (add
       (syndrome-some (ras e) (r .isv) (mmuFault (r .code)) (between 0x13 0x17 (r .code)) (and-right (code && aet && wnr) isv had))
@@ -127,12 +106,7 @@ module _ (e : ℕ) where
   rules-passed (Record.Call r) l had = (l, tt)
   rules-passed (Record.Smc r) l had = two (conditionRule (r .cv) (r .cond)) (passedRule (r .ccknownpass) (r .cv) (r .cond)) l
   rules-passed (Record.InstructionAbort r) l had =
-      let valid = implies (r .fnv) (eqb (r .code) 0x10) in
-      let external = externalRule (r .ea) (r .code) in
-      let walk = walkRule (r .s1ptw) (r .code) in
-      let first = and-left (valid && external) walk l in
-      add (and-left valid external first) (add (and-right valid external first) (add (and-right (valid && external) walk l)
-      (add (code-some (ras e) (everywhere (r .code)) (withoutRas (r .code)) had) tt)))
+      abort-passed (r .fnv) (r .ea) (r .s1ptw) (r .code) l (needs (someCode (r .code)) 17 ∷ []) (code-some (r .code) had, tt)
   rules-passed (Record.DataAbort r) l had = data-passed r l had
 
   -- A WORD THAT AN EDITION HAS breaks no rule

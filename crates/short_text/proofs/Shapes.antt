@@ -13,7 +13,7 @@ use Rattle.names.specs.Table.{labels, sources, labelAt, valuesAt}
 use Rattle.field_text.specs.Rows.{rowLabels, rowHighs, rowLows, rowLists, rowAt, shapeFirsts, shapeCounts, shapeRows}
 use Rattle.field_text.proofs.Fields.{rowsOf}
 use Rattle.record.specs.Class.{plainClasses, mcrClasses, mcrrClasses}
-use Rattle.record_text.specs.Names.{wfxNames, mcrNames, mcrrNames, ldcNames, callNames, smcNames}
+use Rattle.record_text.specs.Names.{plain, wfxNames, mcrNames, mcrrNames, ldcNames, callNames, smcNames}
 use Rattle.short_layout.specs.Fields.{fieldsOf}
 use Rattle.short_record.specs.Class.{callClasses, headOf}
 use Rattle.short_record.specs.declared.kinds.Record.{Record}
@@ -66,16 +66,16 @@ rows-agree (Record.Plain r) own b code =
     b
 rows-agree (Record.Wfx r) own b code = both (λ t. At 0x01 t code (wfxNames t) (fieldsOf (Record.Wfx r))) refl refl (r .cv)
 rows-agree (Record.Mcr r) own b code =
-    both (λ t. At (r .class) t code (mcrNames t) (fieldsOf (Record.Mcr r)))
-    (among-each mcrClasses (λ c. At c true code (mcrNames true) (fieldsOf (Record.Mcr r))) (refl, (refl, (refl, tt))) (r .class) own)
-    (among-each mcrClasses (λ c. At c false code (mcrNames false) (fieldsOf (Record.Mcr r))) (refl, (refl, (refl, tt))) (r .class) own)
+    both (λ t. At (r .class) t code (mcrNames plain t) (fieldsOf (Record.Mcr r)))
+    (among-each mcrClasses (λ c. At c true code (mcrNames plain true) (fieldsOf (Record.Mcr r))) (refl, (refl, (refl, tt))) (r .class) own)
+    (among-each mcrClasses (λ c. At c false code (mcrNames plain false) (fieldsOf (Record.Mcr r))) (refl, (refl, (refl, tt))) (r .class) own)
     (r .cv)
 rows-agree (Record.Mcrr r) own b code =
-    both (λ t. At (r .class) t code (mcrrNames t) (fieldsOf (Record.Mcrr r)))
-    (among-each mcrrClasses (λ c. At c true code (mcrrNames true) (fieldsOf (Record.Mcrr r))) (refl, (refl, tt)) (r .class) own)
-    (among-each mcrrClasses (λ c. At c false code (mcrrNames false) (fieldsOf (Record.Mcrr r))) (refl, (refl, tt)) (r .class) own)
+    both (λ t. At (r .class) t code (mcrrNames plain t) (fieldsOf (Record.Mcrr r)))
+    (among-each mcrrClasses (λ c. At c true code (mcrrNames plain true) (fieldsOf (Record.Mcrr r))) (refl, (refl, tt)) (r .class) own)
+    (among-each mcrrClasses (λ c. At c false code (mcrrNames plain false) (fieldsOf (Record.Mcrr r))) (refl, (refl, tt)) (r .class) own)
     (r .cv)
-rows-agree (Record.Ldc r) own b code = both (λ t. At 0x06 t code (ldcNames t) (fieldsOf (Record.Ldc r))) refl refl (r .cv)
+rows-agree (Record.Ldc r) own b code = both (λ t. At 0x06 t code (ldcNames plain t) (fieldsOf (Record.Ldc r))) refl refl (r .cv)
 rows-agree (Record.Simd r) own b code = both (λ t. At 0x07 t code (simdNames t) (fieldsOf (Record.Simd r))) refl refl (r .cv)
 rows-agree (Record.Call r) own b code =
     both (λ t. At (r .class) t code (callNames (r .class)) (fieldsOf (Record.Call r)))

@@ -25,14 +25,20 @@ append-requires c κs = search needs
 enum-told-3 : tie.Need-enum-told-3
 enum-told-3 c = search needs
 
+unknown-class-requires : tie.Need-unknown-class-requires
+unknown-class-requires c κs = search needs
+
+enum-told-4 : tie.Need-enum-told-4
+enum-told-4 c = search needs
+
 slice-aggregate-append-2 : tie.Need-slice-aggregate-append-2
 slice-aggregate-append-2 c = search needs
 
 append-requires-2 : tie.Need-append-requires-2
 append-requires-2 c κs = search needs
 
-enum-told-4 : tie.Need-enum-told-4
-enum-told-4 c = search needs
+enum-told-5 : tie.Need-enum-told-5
+enum-told-5 c = search needs
 
 slice-aggregate-append-3 : tie.Need-slice-aggregate-append-3
 slice-aggregate-append-3 c = search needs
@@ -40,23 +46,14 @@ slice-aggregate-append-3 c = search needs
 append-requires-3 : tie.Need-append-requires-3
 append-requires-3 c κs = search needs
 
-enum-told-5 : tie.Need-enum-told-5
-enum-told-5 c = search needs
+enum-known-refusal : tie.Need-enum-known-refusal
+enum-known-refusal c = search needs
 
 slice-aggregate-append-4 : tie.Need-slice-aggregate-append-4
 slice-aggregate-append-4 c = search needs
 
 append-requires-4 : tie.Need-append-requires-4
 append-requires-4 c κs = search needs
-
-enum-known-refusal : tie.Need-enum-known-refusal
-enum-known-refusal c = search needs
-
-slice-aggregate-append-5 : tie.Need-slice-aggregate-append-5
-slice-aggregate-append-5 c = search needs
-
-append-requires-5 : tie.Need-append-requires-5
-append-requires-5 c κs = search needs
 
 others-requires : tie.Need-others-requires
 others-requires c κs = search needs
@@ -81,19 +78,19 @@ same-length-3 : tie.Need-same-length-3
 same-length-3 c = search needs
 
 returns-3 : tie.Need-returns-3
-returns-3 c = rw (told _ (c .before .before .before .before .before .enum-told3 .given .1)) (c .before .before .append2 .ensures)
+returns-3 c = rw (told _ (c .before .before .before .before .enum-told3 .given .1)) (c .before .before .unknown-class .ensures)
 
 same-length-4 : tie.Need-same-length-4
 same-length-4 c = search needs
 
 returns-4 : tie.Need-returns-4
-returns-4 c = rw (told _ (c .before .before .before .before .before .enum-told4 .given .1)) (c .before .before .append3 .ensures)
+returns-4 c = rw (told _ (c .before .before .before .before .before .enum-told4 .given .1)) (c .before .before .append2 .ensures)
 
 same-length-5 : tie.Need-same-length-5
 same-length-5 c = search needs
 
 returns-5 : tie.Need-returns-5
-returns-5 c = rw (told _ (c .before .before .before .before .before .enum-told5 .given .1)) (c .before .before .append4 .ensures)
+returns-5 c = rw (told _ (c .before .before .before .before .before .enum-told5 .given .1)) (c .before .before .append3 .ensures)
 
 same-length-6 : tie.Need-same-length-6
 same-length-6 c = search needs
@@ -102,7 +99,7 @@ returns-6 : tie.Need-returns-6
 returns-6 c =
     let others = c .before .before in
     let word = others .before .before .before .before in
-    rw (told _ (word .before .before .before .before .refusal .given .1)) (appends-both (word .append5 .ensures) (others .others .ensures))
+    rw (told _ (word .before .before .before .before .refusal .given .1)) (appends-both (word .append4 .ensures) (others .others .ensures))
 
 pub refusal-lines-spec : {M : Type 1} → statement M
 refusal-lines-spec =
@@ -114,17 +111,16 @@ refusal-lines-spec =
     slice-aggregate-append
     append-requires
     enum-told-3
+    unknown-class-requires
+    enum-told-4
     slice-aggregate-append-2
     append-requires-2
-    enum-told-4
+    enum-told-5
     slice-aggregate-append-3
     append-requires-3
-    enum-told-5
+    enum-known-refusal
     slice-aggregate-append-4
     append-requires-4
-    enum-known-refusal
-    slice-aggregate-append-5
-    append-requires-5
     others-requires
     same-length
     returns

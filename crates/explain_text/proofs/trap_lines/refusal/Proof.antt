@@ -2,6 +2,7 @@ use borrow.Author.Needs.{needs}
 use mathlib.Core.Path.{_≡_, ap}
 use Prim.Native.Nat.{ℕ}
 use Rattle.trap_refusal.specs.declared.TrapRefusal.{TrapRefusal}
+use Rattle.text.proofs.Appending.{appends-both}
 use Rattle.explain_text.specs.Inner.{refusalLines}
 use Rattle.explain_text.proofs.trap_lines.refusal.Statement.{statement}
 use Rattle.explain_text.proofs.trap_lines.refusal.Tie as tie
@@ -18,6 +19,9 @@ enum-told c = search needs
 hpfar-line-requires : tie.Need-hpfar-line-requires
 hpfar-line-requires c κs = search needs
 
+word-lines-requires : tie.Need-word-lines-requires
+word-lines-requires c κs = search needs
+
 enum-told-2 : tie.Need-enum-told-2
 enum-told-2 c = search needs
 
@@ -26,6 +30,9 @@ slice-aggregate-append c = search needs
 
 append-requires : tie.Need-append-requires
 append-requires c κs = search needs
+
+word-lines-requires-2 : tie.Need-word-lines-requires-2
+word-lines-requires-2 c κs = search needs
 
 same-length : tie.Need-same-length
 same-length c = search needs
@@ -41,13 +48,19 @@ same-length-2 : tie.Need-same-length-2
 same-length-2 c = search needs
 
 returns-2 : tie.Need-returns-2
-returns-2 c = rw (told _ _ (c .before .before .before .before .enum-told .given .1)) (c .before .before .hpfar-line .ensures)
+returns-2 c =
+    let fields = c .before .before in
+    let line = fields .before .before .before .before in
+    rw (told _ _ (line .before .before .enum-told .given .1)) (appends-both (line .hpfar-line .ensures) (fields .word-lines .ensures))
 
 same-length-3 : tie.Need-same-length-3
 same-length-3 c = search needs
 
 returns-3 : tie.Need-returns-3
-returns-3 c = rw (told _ _ (c .before .before .before .before .before .enum-told2 .given .1)) (c .before .before .append .ensures)
+returns-3 c =
+    let fields = c .before .before in
+    let line = fields .before .before .before .before in
+    rw (told _ _ (line .before .before .before .enum-told2 .given .1)) (appends-both (line .append .ensures) (fields .word-lines2 .ensures))
 
 pub refusal-spec : {M : Type 1} → statement M
 refusal-spec =
@@ -57,9 +70,11 @@ refusal-spec =
     refused-requires
     enum-told
     hpfar-line-requires
+    word-lines-requires
     enum-told-2
     slice-aggregate-append
     append-requires
+    word-lines-requires-2
     same-length
     returns
     same-length-2
