@@ -13,6 +13,7 @@ use record::Esr;
 use record::Origin;
 use record::Record;
 use trap::Abort;
+use trap::Addressed;
 use trap::Trap;
 
 // The page of intermediate addresses that the card stands at.
@@ -92,6 +93,35 @@ fn described(state: Guest, word: u32, abort: Injection) -> Answered
     }
 }
 
+// Nothing is left of the instruction to do: the guest goes on past it.
+fn stepped(state: Guest, record: Record) -> Answered
+    ensures { λ r. ⌜ AsFound state r ⌝ }
+{
+    let done = step::step_over(state, record);
+    let answer = done.answer;
+    let after = done.state;
+    match answer {
+        step::Answer::Stepped => Answered {
+            next: Next::Resume,
+            state: after,
+        },
+        refusal => Answered {
+            next: Next::Refused(step::number(refusal)),
+            state,
+        },
+    }
+}
+
+// The guest goes on as it was: the trap is the debugger's, or belongs to no instruction.
+fn left(state: Guest) -> Answered
+    ensures { λ r. ⌜ AsFound state r ⌝ }
+{
+    Answered {
+        next: Next::Resume,
+        state,
+    }
+}
+
 fn at_card(address: IntermediateAddress) -> bool {
     match address {
         IntermediateAddress::Byte(byte) => byte / 4096 == CARD / 4096,
@@ -125,6 +155,8 @@ fn aborted(state: Guest, abort: Abort, word: u32, value: u32) -> Answered
             });
             if !at_card(place) {
                 injected(state, what)
+            } else if data.cm {
+                stepped(state, record)
             } else if data.isv {
                 finished(state, record, value)
             } else {
@@ -135,17 +167,40 @@ fn aborted(state: Guest, abort: Abort, word: u32, value: u32) -> Answered
     }
 }
 
-// What the guest gets for a trapped instruction. PC is at the instruction, but after an SVC or an HVC.
-fn exception(record: Record) -> Injection {
+// A watchpoint is the debugger's. A PC alignment fault becomes a prefetch abort at its address.
+fn addressed(state: Guest, at: Addressed) -> Answered
+    ensures { λ r. ⌜ AsFound state r ⌝ }
+{
+    let record = at.syndrome;
     match record {
-        Record::Call(call) => {
-            if call.class == 0x11 {
-                Injection::SupervisorCall
-            } else {
-                Injection::UndefinedAfter
-            }
-        }
-        _ => Injection::UndefinedAt,
+        Record::Watchpoint(_) => left(state),
+        _ => injected(
+            state,
+            Injection::PrefetchAbort(Fetch {
+                fault: Fault::External,
+                address: at.address,
+            }),
+        ),
+    }
+}
+
+// A trap without an address, by its class. An instruction whose condition fails does nothing. WFI and WFE are stepped over, PC is past an
+// SVC and past an HVC, and an SError interrupt, a debug event and a BKPT leave the guest as it was. Everything else is undefined to the
+// guest, with PC at it.
+fn trapped(state: Guest, record: Record) -> Answered
+    ensures { λ r. ⌜ AsFound state r ⌝ }
+{
+    if !step::passes(state.status, record) {
+        return stepped(state, record);
+    }
+    let top = record::head(record);
+    let class = top.class;
+    match class {
+        0x01 => stepped(state, record),
+        0x11 => injected(state, Injection::SupervisorCall),
+        0x12 => injected(state, Injection::UndefinedAfter),
+        0x2F | 0x30 | 0x32 | 0x38 | 0x3A => left(state),
+        _ => injected(state, Injection::UndefinedAt),
     }
 }
 
@@ -168,14 +223,8 @@ pub fn answer(
         },
         trap::Answer::Shown(shown) => match shown {
             Trap::Abort(abort) => aborted(state, abort, word, value),
-            Trap::Addressed(at) => injected(
-                state,
-                Injection::PrefetchAbort(Fetch {
-                    fault: Fault::External,
-                    address: at.address,
-                }),
-            ),
-            Trap::Plain(record) => injected(state, exception(record)),
+            Trap::Addressed(at) => addressed(state, at),
+            Trap::Plain(record) => trapped(state, record),
         },
     }
 }

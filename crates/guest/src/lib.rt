@@ -9,8 +9,6 @@ pub use answer::number;
 pub use exception::FaultRegisters;
 pub use exception::Guest;
 pub use exception::Saved;
-pub use exception::register;
-pub use exception::with_register;
 pub use injection::Access;
 pub use injection::Fetch;
 pub use injection::Injection;

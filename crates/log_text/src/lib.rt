@@ -68,7 +68,7 @@ pub fn read_line(out: &mut [u8], at: usize, answer: Read) -> usize
     }
 }
 
-pub fn edition_line(out: &mut [u8], at: usize, edition: u8) -> usize
+fn edition_line(out: &mut [u8], at: usize, edition: u8) -> usize
     ensures { λ end. ⌜ Appends (editionText edition) (now (out .entry)) at (now (out .exit)) end ⌝ }
 {
     let word = text::append(out, at, b"edition");
