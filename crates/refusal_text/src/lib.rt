@@ -82,31 +82,14 @@ fn others(out: &mut [u8], at: usize, short: bool, mask: u32) -> usize
     }
 }
 
-fn unknown_edition(out: &mut [u8], at: usize, short: bool) -> usize
-    ensures { λ end. ⌜ Appends (refusalText short Refusal.UnknownEdition) (now (out .entry)) at (now (out .exit)) end ⌝ }
+// One text in the short form, and another in the long one.
+fn by_form(out: &mut [u8], at: usize, short: bool, in_short: &[u8], in_long: &[u8]) -> usize
+    ensures { λ end. ⌜ Appends (cond short (now (in_short .entry)) (now (in_long .entry))) (now (out .entry)) at (now (out .exit)) end ⌝ }
 {
     if short {
-        text::append(out, at, b"refused 1: the edition is above 1\n")
+        text::append(out, at, in_short)
     } else {
-        text::append(out, at, b"refused 1: the edition is above 15\n")
-    }
-}
-
-fn unknown_class(out: &mut [u8], at: usize, short: bool) -> usize
-    ensures { λ end. ⌜ Appends (refusalText short Refusal.UnknownClass) (now (out .entry)) at (now (out .exit)) end ⌝ }
-{
-    if short {
-        text::append(
-            out,
-            at,
-            b"refused 3: EC 31:26 is no class of the build in the short form\n",
-        )
-    } else {
-        text::append(
-            out,
-            at,
-            b"refused 3: EC 31:26 is no class of the build from AArch32\n",
-        )
+        text::append(out, at, in_long)
     }
 }
 
@@ -115,13 +98,25 @@ pub fn refusal_lines(out: &mut [u8], at: usize, short: bool, refusal: Refusal) -
     ensures { λ end. ⌜ Appends (refusalText short refusal) (now (out .entry)) at (now (out .exit)) end ⌝ }
 {
     match refusal {
-        Refusal::UnknownEdition => unknown_edition(out, at, short),
+        Refusal::UnknownEdition => by_form(
+            out,
+            at,
+            short,
+            b"refused 1: the edition is above 1\n",
+            b"refused 1: the edition is above 15\n",
+        ),
         Refusal::UpperHalf => text::append(
             out,
             at,
             b"refused 2: bits 63:32 of the syndrome are not zero\n",
         ),
-        Refusal::UnknownClass => unknown_class(out, at, short),
+        Refusal::UnknownClass => by_form(
+            out,
+            at,
+            short,
+            b"refused 3: EC 31:26 is no class of the build in the short form\n",
+            b"refused 3: EC 31:26 is no class of the build from AArch32\n",
+        ),
         Refusal::ShortInstruction => {
             text::append(out, at, b"refused 4: IL 25 is 0 where it must be 1\n")
         }

@@ -10,8 +10,14 @@ use Rattle.refusal_text.proofs.refusal_lines.Tie as tie
 enum-told : tie.Need-enum-told
 enum-told c = search needs
 
-unknown-edition-requires : tie.Need-unknown-edition-requires
-unknown-edition-requires c κs = search needs
+slice-aggregate-by-form : tie.Need-slice-aggregate-by-form
+slice-aggregate-by-form c = search needs
+
+slice-aggregate-by-form-2 : tie.Need-slice-aggregate-by-form-2
+slice-aggregate-by-form-2 c = search needs
+
+by-form-requires : tie.Need-by-form-requires
+by-form-requires c κs = search needs
 
 enum-told-2 : tie.Need-enum-told-2
 enum-told-2 c = search needs
@@ -25,8 +31,14 @@ append-requires c κs = search needs
 enum-told-3 : tie.Need-enum-told-3
 enum-told-3 c = search needs
 
-unknown-class-requires : tie.Need-unknown-class-requires
-unknown-class-requires c κs = search needs
+slice-aggregate-by-form-3 : tie.Need-slice-aggregate-by-form-3
+slice-aggregate-by-form-3 c = search needs
+
+slice-aggregate-by-form-4 : tie.Need-slice-aggregate-by-form-4
+slice-aggregate-by-form-4 c = search needs
+
+by-form-requires-2 : tie.Need-by-form-requires-2
+by-form-requires-2 c κs = search needs
 
 enum-told-4 : tie.Need-enum-told-4
 enum-told-4 c = search needs
@@ -66,7 +78,7 @@ told : (short : Bool) {r known : Refusal} → r ≡ known → refusalText short 
 told short e = ap (refusalText short) e
 
 returns : tie.Need-returns
-returns c = rw (told _ (c .before .before .before .before .enum-told .given .1)) (c .before .before .unknown-edition .ensures)
+returns c = rw (told _ (c .before .before .before .before .before .before .enum-told .given .1)) (c .before .before .by-form .ensures)
 
 same-length-2 : tie.Need-same-length-2
 same-length-2 c = search needs
@@ -78,7 +90,7 @@ same-length-3 : tie.Need-same-length-3
 same-length-3 c = search needs
 
 returns-3 : tie.Need-returns-3
-returns-3 c = rw (told _ (c .before .before .before .before .enum-told3 .given .1)) (c .before .before .unknown-class .ensures)
+returns-3 c = rw (told _ (c .before .before .before .before .before .before .enum-told3 .given .1)) (c .before .before .by-form2 .ensures)
 
 same-length-4 : tie.Need-same-length-4
 same-length-4 c = search needs
@@ -106,12 +118,16 @@ refusal-lines-spec =
     tie.close
     (tie.spec
     enum-told
-    unknown-edition-requires
+    slice-aggregate-by-form
+    slice-aggregate-by-form-2
+    by-form-requires
     enum-told-2
     slice-aggregate-append
     append-requires
     enum-told-3
-    unknown-class-requires
+    slice-aggregate-by-form-3
+    slice-aggregate-by-form-4
+    by-form-requires-2
     enum-told-4
     slice-aggregate-append-2
     append-requires-2
