@@ -233,7 +233,7 @@ fn why(form: &Form, word: u32) -> Option<&'static str> {
             class == 0x2f
                 && error != (0, 0, false)
                 && !(error.0 == 0x11 && matches!(error.1, 0..=3 | 6)),
-            "DFSC 5:0 is neither 0 with AET 12:10 and EA 9 0, nor 0x11 with an AET of 0 to 3 or 6",
+            "DFSC 5:0 is neither 0 with AET 12:10 and EA 9 both 0, nor 0x11 with an AET of 0 to 3 or 6",
         ),
         (
             is_abort && !is_code(form, class, code),
@@ -245,7 +245,7 @@ fn why(form: &Form, word: u32) -> Option<&'static str> {
         ),
         (
             !matches!((code, aet), (_, 0) | (0x10, 1) | (0x11, _)),
-            "bits 11:10 are not 0, and the fault code 5:0 is neither 0x11 nor, with bits 11:10 1, 0x10",
+            "bits 11:10 are not 0, and the fault code 5:0 is neither 0x11, nor 0x10 with bits 11:10 equal to 1",
         ),
         (
             is_interrupt && is("WnR") && aet != 0,
@@ -378,13 +378,13 @@ fn fault(code: u32) -> Option<String> {
         0x08..=0x0b => format!("Access flag fault, level {level}"),
         0x0c..=0x0f => format!("Permission fault, level {level}"),
         0x10 => format!("Synchronous External abort, not on {UPDATE}"),
-        0x11 => "SError interrupt, of which WnR says nothing".into(),
+        0x11 => "SError interrupt, of which CM and WnR say nothing".into(),
         0x13 => format!("Synchronous External abort on {UPDATE}, level -1"),
         0x14..=0x17 => format!("Synchronous External abort on {UPDATE}, level {level}"),
         0x18 => format!("{ECC}, not on translation table walk"),
         0x19 => {
             let from = "a parity or ECC error on memory access";
-            format!("SError interrupt from {from}, of which WnR says nothing")
+            format!("SError interrupt from {from}, of which CM and WnR say nothing")
         }
         0x1b => format!("{ECC} on {UPDATE}, level -1"),
         0x1c..=0x1f => format!("{ECC} on {UPDATE}, level {level}"),
@@ -491,7 +491,7 @@ fn meaning(form: &Form, record: &Record, name: &str, value: u32) -> Option<Strin
             "Exception was not caused by trapped use of Advanced SIMD functionality",
             "Exception was caused by trapped use of Advanced SIMD functionality",
         ],
-        "Rt" | "Rt2" | "Rn" if !is_short && record.class != 0x18 => return Some(register(value)),
+        "Rt" | "Rt2" if !is_short && record.class != 0x18 => return Some(register(value)),
         _ if !has_syndrome => &[],
         "SRT" if !is_short => return Some(register(value)),
         "SAS" => &["Byte", "Halfword", "Word", "Doubleword"],
@@ -630,6 +630,7 @@ pub fn questions() -> String {
         0x33e1_0800,
         0x1be0_000b,
         0x1be0_0008,
+        0x1be0_0269,
         0x4400_0100,
         0x4e10_0000,
         0x8200_0405,

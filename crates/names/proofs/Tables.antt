@@ -15,7 +15,7 @@ texts-many : length texts ≡ 363
 unfolding texts lists labels sources
 texts-many = refl
 
-bytes-many : length (together texts) ≡ 8520
+bytes-many : length (together texts) ≡ 8545
 unfolding texts lists labels sources
 bytes-many = refl
 
@@ -30,7 +30,7 @@ module _ (n : ℕ) (h : n < 363) where
   pub text-rises : getD (startsFrom 0 texts) n 0 ≤ getD (startsFrom 0 texts) (n + 1) 0
   text-rises = rw add-one (omega (arith, ends-at texts n known))
 
-  pub text-within : getD (startsFrom 0 texts) (n + 1) 0 ≤ 8520
+  pub text-within : getD (startsFrom 0 texts) (n + 1) 0 ≤ 8545
   text-within = rw add-one (rw bytes-many at (ends-within texts n known))
 
   pub text-cut : take (getD (startsFrom 0 texts) (n + 1) 0 - getD (startsFrom 0 texts) n 0)

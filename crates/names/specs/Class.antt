@@ -1,4 +1,4 @@
--- The exception classes, EC, of the build by their numbers (source 001, 'EC'), from either origin.
+-- The exception classes, EC, of the build by their numbers (source 001, 'EC'; IL of HSR by source 004), from either origin.
 use mathlib.Core.List.{List, [], _∷_}
 use Rattle.names.specs.Name.{Entry, means}
 

@@ -1,9 +1,10 @@
--- Fault status codes, IFSC and DFSC (source 001; 0x19, which the short form alone has, by source 004), and those of an SError interrupt.
+-- Fault status codes, IFSC and DFSC (source 001; 0x11 and 0x19, which the short form alone has among its aborts, by source 004), and those of
+-- an SError interrupt.
 use mathlib.Core.List.{List, [], _∷_}
 use Rattle.names.specs.Name.{Entry, means}
 
--- IFSC and DFSC. WnR is UNKNOWN with 0x31 and 0x35 in the long form, and an SError interrupt, which the short form alone has among its
--- codes, has none that says anything
+-- IFSC and DFSC. WnR is UNKNOWN with 0x31 and 0x35 in the long form; CM and WnR are of synchronous aborts, and say nothing of an SError
+-- interrupt
 abbrev pub faultCodes : List Entry
 faultCodes =
     means 0x00 "Address size fault, level 0 of translation or translation table base register"
@@ -23,14 +24,14 @@ faultCodes =
     ∷ means 0x0E "Permission fault, level 2"
     ∷ means 0x0F "Permission fault, level 3"
     ∷ means 0x10 "Synchronous External abort, not on translation table walk or hardware update of translation table"
-    ∷ means 0x11 "SError interrupt, of which WnR says nothing"
+    ∷ means 0x11 "SError interrupt, of which CM and WnR say nothing"
     ∷ means 0x13 "Synchronous External abort on translation table walk or hardware update of translation table, level -1"
     ∷ means 0x14 "Synchronous External abort on translation table walk or hardware update of translation table, level 0"
     ∷ means 0x15 "Synchronous External abort on translation table walk or hardware update of translation table, level 1"
     ∷ means 0x16 "Synchronous External abort on translation table walk or hardware update of translation table, level 2"
     ∷ means 0x17 "Synchronous External abort on translation table walk or hardware update of translation table, level 3"
     ∷ means 0x18 "Synchronous parity or ECC error on memory access, not on translation table walk"
-    ∷ means 0x19 "SError interrupt from a parity or ECC error on memory access, of which WnR says nothing"
+    ∷ means 0x19 "SError interrupt from a parity or ECC error on memory access, of which CM and WnR say nothing"
     ∷ means 0x1B "Synchronous parity or ECC error on memory access on translation table walk or hardware update of translation table, level -1"
     ∷ means 0x1C "Synchronous parity or ECC error on memory access on translation table walk or hardware update of translation table, level 0"
     ∷ means 0x1D "Synchronous parity or ECC error on memory access on translation table walk or hardware update of translation table, level 1"

@@ -1,5 +1,5 @@
--- What the values of the other fields mean (source 001; TA and the short form's AET by source 004; COND by the manual's table of condition
--- codes). A value that is missing has no meaning in the build.
+-- What the values of the other fields mean (source 001; TA and the short form's AET and FnV by source 004; COND by the manual's table of
+-- condition codes, and registers by its mapping). A value that is missing has no meaning in the build.
 use mathlib.Core.List.{List, [], _∷_}
 use Rattle.names.specs.Name.{Entry, means}
 
@@ -85,7 +85,7 @@ passNoCondition =
     ∷ means 15 "UNKNOWN"
     ∷ []
 
--- Rt, Rt2, Rn and SRT of the long form, which are the AArch64 view of an AArch32 register (the manual's mapping of the general-purpose
+-- Rt, Rt2 and SRT of the long form, which are the AArch64 view of an AArch32 register (the manual's mapping of the general-purpose
 -- registers between the Execution states)
 abbrev pub registers : List Entry
 registers =
@@ -184,7 +184,7 @@ errorTypes =
     ∷ means 3 "Restartable state (UEO)"
     ∷ []
 
--- FnV of the long form, and of the short form's instruction and data aborts
+-- FnV: of the long form; of the short form's instruction aborts; of its data aborts
 abbrev pub farValidity : List Entry
 farValidity =
     means 0 "FAR is valid"
@@ -333,14 +333,14 @@ reasons =
     ∷ means 13 "SSE 21 is 1, and SAS 23:22 is above 1 or WnR 6 is 1"
     ∷ means 14 "CM 8 is 1 and WnR 6 is 0"
     ∷ means 15 "EX 6 is 1 and ISV 24 is 0"
-    ∷ means 16 "DFSC 5:0 is neither 0 with AET 12:10 and EA 9 0, nor 0x11 with an AET of 0 to 3 or 6"
+    ∷ means 16 "DFSC 5:0 is neither 0 with AET 12:10 and EA 9 both 0, nor 0x11 with an AET of 0 to 3 or 6"
     ∷ means 17 "no edition has the fault code 5:0 in this class"
     ∷ means 18 "SET 12:11 is neither 0 nor, with the fault code 0x10, 2 or 3"
     ∷ means 19 "ISV 24 is 1 and the fault code 5:0 is not among 0x00 to 0x0f, 0x13 to 0x17, 0x29 and 0x2b"
     ∷ means 20 "the fault code 5:0 is not 0x22, a debug exception"
     ∷ means 21 "TA 5 is 1 and coproc 3:0 is not 0b1010, or TA 5 is 0 and coproc 3:0 is not 0"
     ∷ means 22 "CM 8 is 1 in an SError interrupt"
-    ∷ means 23 "bits 11:10 are not 0, and the fault code 5:0 is neither 0x11 nor, with bits 11:10 1, 0x10"
+    ∷ means 23 "bits 11:10 are not 0, and the fault code 5:0 is neither 0x11, nor 0x10 with bits 11:10 equal to 1"
     ∷ means 24 "ISV 24 is 1, and SAS 23:22 is 3 or SRT 19:16 is 15"
     ∷ means 25 "AET 11:10 is not 0, which needs RAS, and WnR 6 is 1, which RAS makes 0"
     ∷ []

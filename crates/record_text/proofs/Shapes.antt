@@ -66,7 +66,7 @@ rows-agree (Record.Mcrr r) own b =
     (among-each mcrrClasses (λ c. At c true (mcrrNames registers true) (fieldsOf (Record.Mcrr r))) (refl, (refl, tt)) (r .class) own)
     (among-each mcrrClasses (λ c. At c false (mcrrNames registers false) (fieldsOf (Record.Mcrr r))) (refl, (refl, tt)) (r .class) own)
     (r .cv)
-rows-agree (Record.Ldc r) own b = both (λ t. At 0x06 t (ldcNames registers t) (fieldsOf (Record.Ldc r))) refl refl (r .cv)
+rows-agree (Record.Ldc r) own b = both (λ t. At 0x06 t (ldcNames t) (fieldsOf (Record.Ldc r))) refl refl (r .cv)
 rows-agree (Record.Simd r) own b = both (λ t. At 0x07 t (simdNames t) (fieldsOf (Record.Simd r))) refl refl (r .cv)
 rows-agree (Record.Call r) own b =
     both (λ t. At (r .class) t (callNames (r .class)) (fieldsOf (Record.Call r)))

@@ -42,11 +42,12 @@ mcrrNames register cv =
     (condition cv
     (named "Opc1" plain ∷ named "Rt2" register ∷ named "Rt" register ∷ named "CRm" plain ∷ named "Direction" mcrrDirections ∷ []))
 
-abbrev pub ldcNames : List Entry → Bool → List Name
-ldcNames register cv =
+-- Rn is UNKNOWN with some values of AM, which say so
+abbrev pub ldcNames : Bool → List Name
+ldcNames cv =
     head
     (condition cv
-    (named "imm8" plain ∷ named "Rn" register ∷ named "Offset" offsets ∷ named "AM" addressingModes ∷ named "Direction" ldcDirections
+    (named "imm8" plain ∷ named "Rn" plain ∷ named "Offset" offsets ∷ named "AM" addressingModes ∷ named "Direction" ldcDirections
     ∷ []))
 
 abbrev pub simdNames : Bool → List Name
@@ -100,7 +101,7 @@ namesOf (Record.Plain r) = head []
 namesOf (Record.Wfx r) = wfxNames (r .cv)
 namesOf (Record.Mcr r) = mcrNames registers (r .cv)
 namesOf (Record.Mcrr r) = mcrrNames registers (r .cv)
-namesOf (Record.Ldc r) = ldcNames registers (r .cv)
+namesOf (Record.Ldc r) = ldcNames (r .cv)
 namesOf (Record.Simd r) = simdNames (r .cv)
 namesOf (Record.Call r) = callNames (r .class)
 namesOf (Record.Smc r) = smcNames (r .cv)

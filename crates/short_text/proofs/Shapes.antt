@@ -75,7 +75,7 @@ rows-agree (Record.Mcrr r) own b code =
     (among-each mcrrClasses (λ c. At c true code (mcrrNames plain true) (fieldsOf (Record.Mcrr r))) (refl, (refl, tt)) (r .class) own)
     (among-each mcrrClasses (λ c. At c false code (mcrrNames plain false) (fieldsOf (Record.Mcrr r))) (refl, (refl, tt)) (r .class) own)
     (r .cv)
-rows-agree (Record.Ldc r) own b code = both (λ t. At 0x06 t code (ldcNames plain t) (fieldsOf (Record.Ldc r))) refl refl (r .cv)
+rows-agree (Record.Ldc r) own b code = both (λ t. At 0x06 t code (ldcNames t) (fieldsOf (Record.Ldc r))) refl refl (r .cv)
 rows-agree (Record.Simd r) own b code = both (λ t. At 0x07 t code (simdNames t) (fieldsOf (Record.Simd r))) refl refl (r .cv)
 rows-agree (Record.Call r) own b code =
     both (λ t. At (r .class) t code (callNames (r .class)) (fieldsOf (Record.Call r)))
