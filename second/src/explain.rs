@@ -526,7 +526,7 @@ fn register(number: u32) -> String {
         15 => of_mode("hyp", false),
         16..=23 => {
             let mode = ["irq", "svc", "abt", "und"][(number as usize - 16) / 2];
-            of_mode(mode, number % 2 == 0)
+            of_mode(mode, number.is_multiple_of(2))
         }
         24..=28 => format!("R{}_fiq", number - 16),
         29 | 30 => of_mode("fiq", number == 30),
