@@ -966,6 +966,135 @@ static void logs(void)
     CHECK(knucklepin_log_write(editions, 0, syndromes, 0, fars, 0, hpfars, 0, injected, 0, buffer, 16, &length) == 0 && length == 16);
 }
 
+/* ---- what the header says of every call */
+
+/* Each refusal in its place among the call's tests, where the questions above leave it open. */
+static void orders(void)
+{
+    struct knucklepin_record record = {.kind = KNUCKLEPIN_KIND_CALL, .call = {.ec = 0x18, .imm16 = 0x10000}};
+    struct knucklepin_short_record short_record, short_read;
+    struct knucklepin_esr esr;
+    struct knucklepin_hsr hsr = {UINT32_MAX};
+    struct knucklepin_editions editions;
+    struct knucklepin_log_answer answer;
+    uint64_t length;
+
+    /* Class 0x16 with IL 0; an HVC with bit 16 set, and with IL 0 too. */
+    CHECK(reads(0, 0x158000000, KNUCKLEPIN_UPPER_HALF, 0, 0));
+    CHECK(reads(0, 0x58000000, KNUCKLEPIN_UNKNOWN_CLASS, 0, 0));
+    CHECK(reads(0, 0x48010000, KNUCKLEPIN_SHORT_INSTRUCTION, 0, 0));
+    CHECK(reads(0, 0x4a010000, KNUCKLEPIN_NO_EDITION, 0, 0));
+    CHECK(knucklepin_hsr_read(2, hsr, &short_read, &editions) == KNUCKLEPIN_UNKNOWN_EDITION);
+    CHECK(knucklepin_short_read(0, 0x58000000) == KNUCKLEPIN_UNKNOWN_CLASS);
+    CHECK(knucklepin_short_read(0, 0x48010000) == KNUCKLEPIN_SHORT_INSTRUCTION);
+    CHECK(knucklepin_short_read(0, 0x4a010000) == KNUCKLEPIN_NO_EDITION);
+
+    /* A call of a class that its kind lacks, then an HVC, with IL 0 and an immediate that doesn't fit; then with IL 1. Of an SMC of AArch64
+       with IL 0 the class comes first, from AArch32. */
+    CHECK(unwritten(16, &record, KNUCKLEPIN_UNKNOWN_EDITION));
+    CHECK(unwritten(0, &record, KNUCKLEPIN_NO_EDITION));
+    record.call.ec = 0x12;
+    CHECK(unwritten(0, &record, KNUCKLEPIN_SHORT_INSTRUCTION));
+    memcpy(&short_record, &record, sizeof record);
+    record.call.il = 1;
+    CHECK(unwritten(0, &record, KNUCKLEPIN_NO_EDITION));
+    record.call.il = 0;
+    record.call.ec = 0x17;
+    CHECK(unwritten(0, &record, KNUCKLEPIN_NO_EDITION));
+    CHECK(esr_write(KNUCKLEPIN_AARCH64, 0, &record, &esr, &editions) == KNUCKLEPIN_SHORT_INSTRUCTION);
+    CHECK(knucklepin_hsr_write(0, &short_record, &hsr, &editions) == KNUCKLEPIN_SHORT_INSTRUCTION);
+    short_record.call.ec = 0x16;
+    CHECK(knucklepin_hsr_write(0, &short_record, &hsr, &editions) == KNUCKLEPIN_NO_EDITION);
+    CHECK(knucklepin_hsr_write(2, &short_record, &hsr, &editions) == KNUCKLEPIN_UNKNOWN_EDITION);
+
+    /* One syndrome, no address, an injection with domain 16, and a byte more; and the injection alone. */
+    static const uint8_t unequal[27] = {[4] = 1, [20] = 1, [24] = 4, [25] = 16}, wide[18] = {[12] = 1, [16] = 4, [17] = 16};
+    static uint8_t ones[65537];
+    memset(ones, 0xff, sizeof ones);
+    CHECK(knucklepin_log_read(ones, 65537, &answer) == KNUCKLEPIN_LOG_TOO_LONG && ZEROS(answer));
+    CHECK(knucklepin_log_read(ones, 65536, &answer) == KNUCKLEPIN_LOG_CUT_SHORT && answer.gone == 0 && answer.section == 1);
+    CHECK(knucklepin_log_read(unequal, 25, &answer) == KNUCKLEPIN_LOG_CUT_SHORT && answer.gone == 0 && answer.section == 4);
+    CHECK(knucklepin_log_read(unequal, 27, &answer) == KNUCKLEPIN_LOG_LEFT_OVER && ZEROS(answer));
+    CHECK(knucklepin_log_read(unequal, 26, &answer) == KNUCKLEPIN_LOG_UNEQUAL && ZEROS(answer));
+    CHECK(knucklepin_log_read(wide, 18, &answer) == KNUCKLEPIN_WIDE_DOMAIN && ZEROS(answer));
+
+    const struct knucklepin_esr syndrome = {0};
+    const uint16_t injection = 0x1004;
+    uint8_t buffer[1];
+    CHECK(knucklepin_log_write(ones, 65521, &syndrome, 1, NULL, 0, NULL, 0, &injection, 1, buffer, 0, &length) == KNUCKLEPIN_LOG_TOO_LONG);
+    CHECK(knucklepin_log_write(ones, 0, &syndrome, 1, NULL, 0, NULL, 0, &injection, 1, buffer, 0, &length) == KNUCKLEPIN_LOG_UNEQUAL);
+    CHECK(knucklepin_log_write(ones, 0, NULL, 0, NULL, 0, NULL, 0, &injection, 1, buffer, 0, &length) == KNUCKLEPIN_WIDE_DOMAIN);
+    CHECK(knucklepin_log_write(ones, 0, NULL, 0, NULL, 0, NULL, 0, NULL, 0, buffer, 0, &length) == KNUCKLEPIN_LOG_NO_ROOM);
+}
+
+/* What a refusal leaves that isn't zero, and what is made of numbers that mean nothing. */
+static void odd_numbers(void)
+{
+    struct knucklepin_state state = user(), expected;
+    struct knucklepin_pending pending;
+    struct knucklepin_record record;
+    struct knucklepin_access access;
+    struct knucklepin_list registers;
+    struct knucklepin_log_entry entry;
+
+    /* 0x15 is the abort raised three times; a refused delivery leaves the queue as it was read, and so does one that is masked. */
+    CHECK(knucklepin_raise(0x15, 0) == KNUCKLEPIN_ABORT);
+    state.status = 0x110;
+    state.vbar = 1;
+    expected = state;
+    pending.queue = 0x15;
+    CHECK(knucklepin_deliver(&state, &pending) == KNUCKLEPIN_UNALIGNED_VBAR && pending.queue == KNUCKLEPIN_ABORT && pending.delivered == 0);
+    pending.queue = KNUCKLEPIN_EMPTY;
+    CHECK(knucklepin_deliver(&state, &pending) == KNUCKLEPIN_UNALIGNED_VBAR && ZEROS(pending));
+    CHECK(SAME(state, expected));
+    state.vbar = 0;
+    pending.queue = 0x15;
+    CHECK(knucklepin_deliver(&state, &pending) == 0 && pending.queue == KNUCKLEPIN_ABORT && pending.delivered == 0);
+
+    /* An HVC and a data abort have no condition, and words that are no record neither: whatever the flags are, they pass. */
+    record = record_of(0x4a000001);
+    CHECK(knucklepin_passes(0, &record) == 1 && knucklepin_passes(UINT32_MAX, &record) == 1);
+    record = record_of(0x93830045);
+    CHECK(knucklepin_passes(0, &record) == 1 && knucklepin_passes(UINT32_MAX, &record) == 1);
+    for (int which = 0; which < NO_RECORDS; which++) {
+        record = no_record(which);
+        CHECK(knucklepin_passes(0, &record) == 1 && knucklepin_passes(UINT32_MAX, &record) == 1);
+    }
+
+    /* LDR r2, [pc, #8]: P, W and Rn aren't fields of a literal. */
+    const struct knucklepin_access literal = {.form = KNUCKLEPIN_LDR + KNUCKLEPIN_LITERAL,
+                                              .cond = 0xe,
+                                              .u = 1,
+                                              .rt = 2,
+                                              .imm = 8,
+                                              .load = 1,
+                                              .sas = 2,
+                                              .count = 1,
+                                              .address = 0x8010};
+    state = user();
+    UNWRITTEN(access);
+    CHECK(knucklepin_a32_describe(&state, 0xe59f2008, &access, &registers) == 0 && SAME(access, literal));
+
+    /* A log without entries has no fifth section; cut within its second count it has a first section alone. */
+    static const uint8_t empty[16];
+    static const uint32_t passed[] = {4, 5, UINT32_MAX};
+    for (size_t i = 0; i < sizeof passed / sizeof *passed; i++) {
+        UNWRITTEN(entry);
+        knucklepin_log_look(empty, 16, passed[i], 0, &entry);
+        CHECK(ZEROS(entry));
+        UNWRITTEN(entry);
+        knucklepin_log_look(empty, 7, passed[i], 0, &entry);
+        CHECK(ZEROS(entry));
+    }
+    knucklepin_log_look(empty, 7, 0, 0, &entry);
+    CHECK(entry.whole == 1 && entry.count == 0 && entry.entry == KNUCKLEPIN_NO_ENTRY);
+    for (uint32_t n = 1; n < 4; n++) {
+        UNWRITTEN(entry);
+        knucklepin_log_look(empty, 7, n, 0, &entry);
+        CHECK(ZEROS(entry));
+    }
+}
+
 int main(void)
 {
     words();
@@ -979,6 +1108,8 @@ int main(void)
     monitor();
     a32();
     logs();
+    orders();
+    odd_numbers();
     printf("calls: %u answers as worked out by hand, %u others\n", checks - wrong, wrong);
     return wrong != 0;
 }
