@@ -374,7 +374,7 @@ uint32_t knucklepin_resume(struct knucklepin_state *state, uint32_t correction);
 /* Whether a trapped instruction counts: one whose condition fails does nothing. */
 uint32_t knucklepin_passes(uint32_t status, const struct knucklepin_record *syndrome);
 
-/* Steps over the instruction: 0, or 5, 9 or 18. */
+/* Steps over WFI, WFE, SMC, a cache maintenance operation (CM 1 and S1PTW 0), or whatever doesn't count: 0, or 5, 9 or 18. */
 uint32_t knucklepin_step_over(struct knucklepin_state *state, const struct knucklepin_record *syndrome);
 
 /* Finishes a load or store of a data abort with ISV 1: 0, or 5, 9 or 18. `value` is what the device gave to a load, and `given` what a
