@@ -678,6 +678,14 @@ static void going_on(void)
     expected.pc = 0x8004;
     CHECK(SAME(state, expected));
 
+    /* Cache maintenance, CM 1; on a walk, S1PTW 1, it has still to be executed. */
+    record = record_of(0x92000145);
+    state = user();
+    CHECK(knucklepin_step_over(&state, &record) == 0 && SAME(state, expected));
+    record = record_of(0x920001c5);
+    state = expected = user();
+    CHECK(knucklepin_step_over(&state, &record) == KNUCKLEPIN_NOT_DESCRIBED && SAME(state, expected));
+
     /* 0x93830045, the store of register 3; with E set its bytes are reversed. */
     record = record_of(0x93830045);
     state = expected = user();
@@ -740,39 +748,269 @@ static void going_on(void)
 
 /* ---- a monitor */
 
-/* Answers a trap of a guest with one emulated card: at the card's page the load or store is finished, with what the card gives or gets; of
-   everything else the guest gets an undefined instruction. 0, or the number of the refusal, with the guest as it was. */
-static uint32_t answer(struct knucklepin_state *guest, struct knucklepin_esr esr, struct knucklepin_far far, struct knucklepin_hpfar hpfar,
-                       uint32_t value, uint32_t *given)
+/* What the monitor does next. */
+enum next {
+    RESUME,  /* the guest goes on, in its state */
+    GIVE,    /* so it does, and the card gets `given` */
+    PERFORM, /* the card is asked for what `access` loads, in transfer order, and then knucklepin_a32_finish goes on */
+    REFUSED  /* nothing was done: the refusal's number */
+};
+
+struct answered {
+    enum next next;
+    uint32_t given, number;
+    struct knucklepin_access access;
+};
+
+/* What comes next, by the number that a call gave: `next`, where it did its work. */
+static struct answered after(uint32_t number, enum next next)
+{
+    const struct answered done = {.next = number == KNUCKLEPIN_TAKEN ? next : REFUSED, .number = number};
+    return done;
+}
+
+/* The guest gets an exception; an abort is an external one. */
+static struct answered injected(struct knucklepin_state *guest, uint32_t injection, uint64_t address, uint32_t write)
+{
+    return after(knucklepin_inject(guest, injection, KNUCKLEPIN_FAULT_EXTERNAL, 0, address, write, 0), RESUME);
+}
+
+/* Nothing is left of the instruction to do: the guest goes on past it. */
+static struct answered stepped(struct knucklepin_state *guest, const struct knucklepin_record *record)
+{
+    return after(knucklepin_step_over(guest, record), RESUME);
+}
+
+/* A data abort. At the card's page cache maintenance is stepped over, a load or store that the chip described (ISV 1) is finished, and one
+   that its word describes has to be performed. Of everything else the guest gets the abort. */
+static struct answered aborted(struct knucklepin_state *guest, const struct knucklepin_trap *trap, uint32_t word, uint32_t value)
+{
+    const uint64_t card = 0x1234;
+    const struct knucklepin_data_abort *abort = &trap->syndrome.data_abort;
+    if (trap->known.intermediate_known == KNUCKLEPIN_BYTE && trap->addresses.intermediate_address >> 12 == card) {
+        struct answered done = {.next = PERFORM};
+        struct knucklepin_list registers;
+        if (abort->cm) return stepped(guest, &trap->syndrome);
+        if (abort->isv) {
+            uint32_t given;
+            done = after(knucklepin_finish(guest, &trap->syndrome, value, &given), abort->wnr ? GIVE : RESUME);
+            done.given = given;
+            return done;
+        }
+        if (knucklepin_a32_describe(guest, word, &done.access, &registers) == KNUCKLEPIN_TAKEN) return done;
+    }
+    return injected(guest, KNUCKLEPIN_DATA_ABORT, trap->addresses.virtual_address, abort->wnr);
+}
+
+/* Answers a trap of a guest with one emulated card, by its class. `word` is the instruction at the guest's PC, and `value` what the card
+   gives to a load. */
+static struct answered answer(struct knucklepin_state *guest, struct knucklepin_esr esr, struct knucklepin_far far,
+                              struct knucklepin_hpfar hpfar, uint32_t word, uint32_t value)
 {
     const uint32_t board = KNUCKLEPIN_RAS | KNUCKLEPIN_LPA;
-    const uint64_t card = 0x1234;
     struct knucklepin_trap trap;
     struct knucklepin_editions editions;
-    uint32_t refusal = knucklepin_trap_read(KNUCKLEPIN_AARCH32, board, esr, far, hpfar, &trap, &editions);
-    if (refusal != KNUCKLEPIN_TAKEN) return refusal;
-    if (trap.known.intermediate_known == KNUCKLEPIN_BYTE && trap.addresses.intermediate_address >> 12 == card) {
-        return knucklepin_finish(guest, &trap.syndrome, value, given);
+    uint32_t number = knucklepin_trap_read(KNUCKLEPIN_AARCH32, board, esr, far, hpfar, &trap, &editions);
+    if (number != KNUCKLEPIN_TAKEN) return after(number, REFUSED);
+    if (!knucklepin_passes(guest->status, &trap.syndrome)) return stepped(guest, &trap.syndrome);
+    switch (esr.word >> 26) {
+    case 0x01: /* WFI, WFE */
+        return stepped(guest, &trap.syndrome);
+    case 0x11: /* SVC: PC is past it, and past an HVC */
+        return injected(guest, KNUCKLEPIN_SUPERVISOR_CALL, 0, 0);
+    case 0x12:
+        return injected(guest, KNUCKLEPIN_UNDEFINED_AFTER, 0, 0);
+    case 0x20: /* an instruction abort, and a PC alignment fault */
+    case 0x22:
+        return injected(guest, KNUCKLEPIN_PREFETCH_ABORT, trap.addresses.virtual_address, 0);
+    case 0x24:
+        return aborted(guest, &trap, word, value);
+    case 0x2f: /* an SError interrupt, which belongs to no instruction; debug events and BKPT, which are the debugger's */
+    case 0x30:
+    case 0x32:
+    case 0x34:
+    case 0x38:
+    case 0x3a:
+        return after(KNUCKLEPIN_TAKEN, RESUME);
+    default: /* everything else is undefined to the guest, with PC at it */
+        return injected(guest, KNUCKLEPIN_UNDEFINED_AT, 0, 0);
     }
-    return knucklepin_inject(guest, KNUCKLEPIN_UNDEFINED_AT, 0, 0, 0, 0, 0);
+}
+
+/* Traps of an instruction at 0x8000: the guest's status word and PC, what comes next, and its PC and status word then, with the link of an
+   exception, and DFSR or IFSR of an abort. They come at the card's page and with the word LDR r2, [r1, #4], but where another is given. */
+struct trapped {
+    uint32_t esr, status, pc;
+    enum next next;
+    struct {
+        uint32_t pc, status, link, code;
+    } to;
+    uint64_t hpfar;
+    uint32_t word;
+};
+
+static const struct trapped TRAPS[] = {
+    /* Unknown; illegal execution state. The link of an undefined instruction is 4 above it, in T32 state 2. */
+    {0x02000000, 0x10, 0x8000, RESUME, .to = {0x1004, 0x9b, 0x8004, 0}},
+    {0x02000000, 0x30, 0x8000, RESUME, .to = {0x1004, 0x9b, 0x8002, 0}},
+    {0x3a000000, 0x10, 0x8000, RESUME, .to = {0x1004, 0x9b, 0x8004, 0}},
+    /* WFI, with EQ where Z is 0 and where it is 1, and of 2 bytes; WFE. */
+    {0x07e00000, 0x10, 0x8000, RESUME, .to = {0x8004, 0x10, 0, 0}},
+    {0x07000000, 0x10, 0x8000, RESUME, .to = {0x8004, 0x10, 0, 0}},
+    {0x07000000, 0x40000010, 0x8000, RESUME, .to = {0x8004, 0x40000010, 0, 0}},
+    {0x05e00000, 0x30, 0x8000, RESUME, .to = {0x8002, 0x30, 0, 0}},
+    {0x07e00001, 0x10, 0x8000, RESUME, .to = {0x8004, 0x10, 0, 0}},
+    /* With EQ, where Z is 0 and where it is 1: MCR of p15, MCRR of p15, MCR of p14, STC, SIMD, VMRS, MRRC of p14, and SMC. */
+    {0x0f000000, 0x10, 0x8000, RESUME, .to = {0x8004, 0x10, 0, 0}},
+    {0x0f000000, 0x40000010, 0x8000, RESUME, .to = {0x1004, 0x4000009b, 0x8004, 0}},
+    {0x13000000, 0x10, 0x8000, RESUME, .to = {0x8004, 0x10, 0, 0}},
+    {0x13000000, 0x40000010, 0x8000, RESUME, .to = {0x1004, 0x4000009b, 0x8004, 0}},
+    {0x17000000, 0x10, 0x8000, RESUME, .to = {0x8004, 0x10, 0, 0}},
+    {0x17000000, 0x40000010, 0x8000, RESUME, .to = {0x1004, 0x4000009b, 0x8004, 0}},
+    {0x1b000000, 0x10, 0x8000, RESUME, .to = {0x8004, 0x10, 0, 0}},
+    {0x1b000000, 0x40000010, 0x8000, RESUME, .to = {0x1004, 0x4000009b, 0x8004, 0}},
+    {0x1f000000, 0x10, 0x8000, RESUME, .to = {0x8004, 0x10, 0, 0}},
+    {0x1f000000, 0x40000010, 0x8000, RESUME, .to = {0x1004, 0x4000009b, 0x8004, 0}},
+    {0x23000001, 0x10, 0x8000, RESUME, .to = {0x8004, 0x10, 0, 0}},
+    {0x23000001, 0x40000010, 0x8000, RESUME, .to = {0x1004, 0x4000009b, 0x8004, 0}},
+    {0x33000001, 0x10, 0x8000, RESUME, .to = {0x8004, 0x10, 0, 0}},
+    {0x33000001, 0x40000010, 0x8000, RESUME, .to = {0x1004, 0x4000009b, 0x8004, 0}},
+    {0x4f080000, 0x10, 0x8000, RESUME, .to = {0x8004, 0x10, 0, 0}},
+    {0x4f080000, 0x40000010, 0x8000, RESUME, .to = {0x1004, 0x4000009b, 0x8004, 0}},
+    /* An SMC with CCKNOWNPASS 0 has passed its condition. */
+    {0x4e000000, 0x10, 0x8000, RESUME, .to = {0x1004, 0x9b, 0x8004, 0}},
+    /* SVC of 4 and of 2 bytes, and HVC in either state: PC is past them. */
+    {0x46000001, 0x10, 0x8004, RESUME, .to = {0x1008, 0x93, 0x8004, 0}},
+    {0x44000001, 0x30, 0x8002, RESUME, .to = {0x1008, 0x93, 0x8002, 0}},
+    {0x4a000001, 0x10, 0x8004, RESUME, .to = {0x1004, 0x9b, 0x8004, 0}},
+    {0x4a000001, 0x30, 0x8004, RESUME, .to = {0x1004, 0x9b, 0x8002, 0}},
+    /* An instruction abort, at the card's page too, on a walk and elsewhere; PC alignment. */
+    {0x82000005, 0x10, 0x8000, RESUME, .to = {0x100c, 0x197, 0x8004, 0x8}},
+    {0x82000085, 0x10, 0x8000, RESUME, .to = {0x100c, 0x197, 0x8004, 0x8}},
+    {0x82000005, 0x30, 0x8000, RESUME, .to = {0x100c, 0x197, 0x8004, 0x8}, .hpfar = 0x12350},
+    {0x8a000000, 0x10, 0x8000, RESUME, .to = {0x100c, 0x197, 0x8004, 0x8}},
+    /* A store of register 3 that the chip describes, of 4 and of 2 bytes; elsewhere; a permission fault, which leaves HPFAR UNKNOWN. */
+    {0x93830045, 0x10, 0x8000, GIVE, .to = {0x8004, 0x10, 0, 0}},
+    {0x91830045, 0x30, 0x8000, GIVE, .to = {0x8002, 0x30, 0, 0}},
+    {0x93830045, 0x10, 0x8000, RESUME, .to = {0x1010, 0x197, 0x8008, 0x808}, .hpfar = 0x12350},
+    {0x9383004d, 0x10, 0x8000, RESUME, .to = {0x1010, 0x197, 0x8008, 0x808}},
+    {0x93830005, 0x10, 0x8000, RESUME, .to = {0x1010, 0x197, 0x8008, 0x8}, .hpfar = 0x12350},
+    /* A load that it doesn't describe: by its word; MOV r0, r0 is no load or store; T32 state; elsewhere, by LPA's bits too; on a walk. */
+    {0x92000005, 0x10, 0x8000, PERFORM, .to = {0x8000, 0x10, 0, 0}},
+    {0x92000005, 0x10, 0x8000, RESUME, .to = {0x1010, 0x197, 0x8008, 0x8}, .word = 0xe1a00000},
+    {0x92000005, 0x30, 0x8000, RESUME, .to = {0x1010, 0x197, 0x8008, 0x8}},
+    {0x92000005, 0x10, 0x8000, RESUME, .to = {0x1010, 0x197, 0x8008, 0x8}, .hpfar = 0x12350},
+    {0x92000005, 0x10, 0x8000, RESUME, .to = {0x1010, 0x197, 0x8008, 0x8}, .hpfar = 0x10000012340},
+    {0x92000085, 0x10, 0x8000, RESUME, .to = {0x1010, 0x197, 0x8008, 0x8}},
+    /* Cache maintenance: at the card's page, on a walk there, and elsewhere. */
+    {0x92000145, 0x10, 0x8000, RESUME, .to = {0x8004, 0x10, 0, 0}},
+    {0x920001c5, 0x10, 0x8000, RESUME, .to = {0x1010, 0x197, 0x8008, 0x808}},
+    {0x92000145, 0x10, 0x8000, RESUME, .to = {0x1010, 0x197, 0x8008, 0x808}, .hpfar = 0x12350},
+    /* An SError interrupt, a breakpoint, a software step, a watchpoint, BKPT, a vector catch. */
+    {0xbe000000, 0x10, 0x8000, RESUME, .to = {0x8000, 0x10, 0, 0}},
+    {0xc2000022, 0x10, 0x8000, RESUME, .to = {0x8000, 0x10, 0, 0}},
+    {0xca000022, 0x10, 0x8004, RESUME, .to = {0x8004, 0x10, 0, 0}},
+    {0xd2000022, 0x10, 0x8000, RESUME, .to = {0x8000, 0x10, 0, 0}},
+    {0xe2000001, 0x10, 0x8000, RESUME, .to = {0x8000, 0x10, 0, 0}},
+    {0xea000022, 0x10, 0x8000, RESUME, .to = {0x8000, 0x10, 0, 0}},
+};
+
+static const uint32_t LDR = 0xe5912004;
+
+static struct answered answered_at(struct knucklepin_state *guest, uint64_t word, uint64_t at, uint64_t page, uint32_t instruction)
+{
+    const struct knucklepin_esr esr = {word};
+    const struct knucklepin_far far = {at};
+    const struct knucklepin_hpfar hpfar = {page};
+    return answer(guest, esr, far, hpfar, instruction, 0xcafe);
+}
+
+/* The guest as a row has it, when it traps and after it. */
+static struct knucklepin_state before(const struct trapped *row)
+{
+    struct knucklepin_state guest = user();
+    guest.status = row->status;
+    guest.pc = row->pc;
+    return guest;
+}
+
+static struct knucklepin_state expected_of(const struct trapped *row)
+{
+    struct knucklepin_state guest = before(row);
+    guest.pc = row->to.pc;
+    guest.status = row->to.status;
+    switch (row->to.status & 0x1f) {
+    case KNUCKLEPIN_MODE_SVC:
+        guest.regs[18] = row->to.link;
+        guest.spsr_svc = row->status;
+        break;
+    case KNUCKLEPIN_MODE_UND:
+        guest.regs[22] = row->to.link;
+        guest.spsr_und = row->status;
+        break;
+    case KNUCKLEPIN_MODE_ABT:
+        guest.regs[20] = row->to.link;
+        guest.spsr_abt = row->status;
+        *(row->to.pc == 0x100c ? &guest.ifsr : &guest.dfsr) = row->to.code;
+        *(row->to.pc == 0x100c ? &guest.ifar : &guest.dfar) = 0x8abc;
+        break;
+    }
+    return guest;
 }
 
 static void monitor(void)
 {
-    struct knucklepin_state guest = user(), expected = user();
-    struct knucklepin_esr esr = {0x93830045};
-    const struct knucklepin_far far = {0x8abc};
-    struct knucklepin_hpfar hpfar = {0x12340};
-    uint32_t given;
-    CHECK(answer(&guest, esr, far, hpfar, 0, &given) == 0 && given == 0x103);
+    struct knucklepin_state guest, expected;
+    struct answered done;
+    for (size_t i = 0; i < sizeof TRAPS / sizeof *TRAPS; i++) {
+        const struct trapped *row = &TRAPS[i];
+        guest = before(row);
+        expected = expected_of(row);
+        done = answered_at(&guest, row->esr, 0x8abc, row->hpfar ? row->hpfar : 0x12340, row->word ? row->word : LDR);
+        CHECK_AT(done.next == row->next && done.number == 0, row->esr);
+        CHECK_AT(done.given == (row->next == GIVE ? 0x103 : 0), row->esr);
+        CHECK_AT(SAME(guest, expected), row->esr);
+    }
+
+    /* A word is loaded into register 2 with what the card gave; an external abort with FnV 1 has no address. */
+    guest = expected = user();
+    expected.regs[2] = 0xcafe;
     expected.pc = 0x8004;
-    CHECK(SAME(guest, expected));
-    hpfar.word = 0x12350;
-    CHECK(answer(&guest, esr, far, hpfar, 0, &given) == 0 && guest.pc == 0x1004 && guest.status == 0x9b && guest.regs[22] == 0x8008);
+    done = answered_at(&guest, 0x93820005, 0x8abc, 0x12340, 0);
+    CHECK(done.next == RESUME && SAME(guest, expected));
     guest = user();
-    expected = user();
-    esr.word = 0x92000018;
-    CHECK(answer(&guest, esr, far, hpfar, 0, &given) == KNUCKLEPIN_OTHER_EDITIONS && SAME(guest, expected));
+    done = answered_at(&guest, 0x92000410, 0x8abc, 0x12340, LDR);
+    CHECK(done.next == RESUME && guest.pc == 0x1010 && guest.dfsr == 0x8 && guest.dfar == 0);
+
+    /* LDR r2, [r1, #4] is performed: the card is asked for one word at 0x105, and the guest goes on with it. */
+    const struct knucklepin_access ldr = {
+        .form = KNUCKLEPIN_LDR, .cond = 0xe, .p = 1, .u = 1, .rn = 1, .rt = 2, .imm = 4, .load = 1, .sas = 2, .count = 1, .address = 0x105};
+    const struct knucklepin_list values = {{0xcafe}};
+    struct knucklepin_transfer transfer;
+    struct knucklepin_list addresses, given;
+    guest = user();
+    done = answered_at(&guest, 0x92000005, 0x8abc, 0x12340, LDR);
+    CHECK(done.next == PERFORM && SAME(done.access, ldr));
+    CHECK(knucklepin_a32_finish(&guest, LDR, &values, &transfer, &addresses, &given) == 0 && SAME(guest, expected));
+
+    /* Refusals, with the guest as it was: of the trap; of a state that is unsound, by each way; of VBAR. */
+    static const struct {
+        uint32_t esr, status, vbar, number;
+    } NOT_DONE[] = {
+        {0x92000018, 0x10, 0x1000, KNUCKLEPIN_OTHER_EDITIONS}, {0x00000000, 0x10, 0x1000, KNUCKLEPIN_SHORT_INSTRUCTION},
+        {0x07e00000, 0x00, 0x1000, KNUCKLEPIN_UNSOUND_STATUS}, {0x07000000, 0x00, 0x1000, KNUCKLEPIN_UNSOUND_STATUS},
+        {0x4a000001, 0x00, 0x1000, KNUCKLEPIN_UNSOUND_STATUS}, {0x93830045, 0x00, 0x1000, KNUCKLEPIN_UNSOUND_STATUS},
+        {0x92000005, 0x00, 0x1000, KNUCKLEPIN_UNSOUND_STATUS}, {0x92000145, 0x00, 0x1000, KNUCKLEPIN_UNSOUND_STATUS},
+        {0x4a000001, 0x10, 0x1001, KNUCKLEPIN_UNALIGNED_VBAR}};
+    for (size_t i = 0; i < sizeof NOT_DONE / sizeof *NOT_DONE; i++) {
+        guest = user();
+        guest.status = NOT_DONE[i].status;
+        guest.vbar = NOT_DONE[i].vbar;
+        expected = guest;
+        done = answered_at(&guest, NOT_DONE[i].esr, 0x8abc, 0x12340, LDR);
+        CHECK_AT(done.next == REFUSED && done.number == NOT_DONE[i].number && done.given == 0, NOT_DONE[i].esr);
+        CHECK_AT(SAME(guest, expected), NOT_DONE[i].esr);
+    }
 }
 
 /* ---- A32 loads and stores */

@@ -382,7 +382,7 @@ uint32_t knucklepin_resume(struct knucklepin_state *state, uint32_t correction);
  * are no record. Of the status word N, Z, C, V, T and IT alone are looked at. */
 uint32_t knucklepin_passes(uint32_t status, const struct knucklepin_record *syndrome);
 
-/* Steps over the instruction. Refused 5, 9, 18. */
+/* Steps over WFI, WFE, SMC, a cache maintenance operation (CM 1 and S1PTW 0), or whatever doesn't count. Refused 5, 9, 18. */
 uint32_t knucklepin_step_over(struct knucklepin_state *state, const struct knucklepin_record *syndrome);
 
 /* Finishes a load or store of a data abort with ISV 1. Refused 5, 9, 18. `value` is what the device gave to a load, of which the bits that
