@@ -266,7 +266,7 @@ fn line_in(catalogue: &Catalogue, edition: u32, registers: Registers) -> String 
 }
 
 /// A log of the cases of the paper and of words that editions differ in.
-fn example() -> Log {
+pub fn example() -> Log {
     let traps = [
         (0x9200_0005, 0x8abc, 0x1_2340),
         (0x9200_0085, 0x8abc, 0x1_2340),

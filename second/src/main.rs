@@ -13,6 +13,7 @@ mod compare_a32;
 mod device;
 mod edition;
 mod explain;
+mod failures;
 mod form;
 mod guest;
 mod log;
@@ -78,7 +79,10 @@ fn run(words: &[&str]) -> io::Result<bool> {
             Ok(rows::check(directory)? & programs::check(directory)?)
         }
         ["answer", name] => programs::answer(name),
-        ["programs", directory] => programs::run(Path::new(directory)),
+        ["programs", directory] => {
+            let directory = Path::new(directory);
+            Ok(programs::run(directory)? & failures::run(directory)?)
+        }
         #[cfg(feature = "compare")]
         ["compare", range @ ..] => compare_range(range),
         #[cfg(feature = "compare")]

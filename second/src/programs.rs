@@ -122,13 +122,18 @@ pub fn run(directory: &Path) -> io::Result<bool> {
     Ok(all_same)
 }
 
-/// Writes what a program must write for this program's standard input.
-pub fn answer(name: &str) -> io::Result<bool> {
+/// What a program must write for an input.
+pub fn answers_of(name: &str, input: &[u8]) -> io::Result<Vec<u8>> {
     let program = PROGRAMS.iter().find(|program| program.call() == name);
     let program = program.ok_or_else(|| io::Error::other(format!("no program {name}")))?;
+    Ok((program.answers)(input))
+}
+
+/// Writes what a program must write for this program's standard input.
+pub fn answer(name: &str) -> io::Result<bool> {
     let mut input = Vec::new();
     io::stdin().read_to_end(&mut input)?;
-    io::stdout().write_all(&(program.answers)(&input))?;
+    io::stdout().write_all(&answers_of(name, &input)?)?;
     Ok(true)
 }
 
@@ -191,7 +196,7 @@ fn file_name() -> PathBuf {
 }
 
 /// A file of these bytes that no folder names any more.
-fn file_of(input: &[u8]) -> io::Result<File> {
+pub fn file_of(input: &[u8]) -> io::Result<File> {
     let path = file_name();
     fs::write(&path, input)?;
     let file = File::open(&path)?;
@@ -240,17 +245,22 @@ fn write_few(pipe: &mut impl Write, input: &[u8], id: u32) -> io::Result<()> {
 }
 
 /// Waits until a process sleeps, as it does in a read of an empty pipe, or has
-/// ended. Its state stands behind its name in parentheses.
-fn wait_until_asleep(id: u32) -> io::Result<()> {
+/// ended.
+pub fn wait_until_asleep(id: u32) -> io::Result<()> {
     for _ in 0..20_000 {
-        let Ok(stat) = fs::read_to_string(format!("/proc/{id}/stat")) else { break };
-        let state = stat.rsplit(')').next().and_then(|rest| rest.trim_start().chars().next());
-        if matches!(state, Some('S' | 'Z' | 'X')) {
-            return Ok(());
+        match state(id) {
+            None => break,
+            Some('S' | 'Z' | 'X') => return Ok(()),
+            Some(_) => thread::sleep(Duration::from_micros(100)),
         }
-        thread::sleep(Duration::from_micros(100));
     }
     Err(io::Error::other("the program doesn't come to read"))
+}
+
+/// The letter of a process's state, which stands behind its name in parentheses.
+pub fn state(id: u32) -> Option<char> {
+    let stat = fs::read_to_string(format!("/proc/{id}/stat")).ok()?;
+    stat.rsplit(')').next()?.trim_start().chars().next()
 }
 
 /// Document 01 and C-16: one hexadecimal digit for the edition, a space and 16

@@ -1,6 +1,6 @@
 -- The answers to an input, read in chunks and read whole.
 use Prim.Native.Nat.{ℕ}
-use mathlib.Core.Bool.{cond}
+use mathlib.Core.Bool.{Bool, cond}
 use mathlib.Core.Path.{_≡_}
 use mathlib.Core.List.{List, [], _∷_, _++_}
 use lib.Dec.{eqb}
@@ -25,3 +25,7 @@ pub record Answered (before after : State) (text : List ℕ) : Type 0 where
 -- a last line without a newline is answered too, where it is not empty
 abbrev pub lastText : State → List ℕ
 lastText s = cond (eqb (s .count) 0) [] (answerText (finished s))
+
+-- where a read or a write failed, it is not
+abbrev pub endText : Bool → State → List ℕ
+endText ended s = cond ended (lastText s) []

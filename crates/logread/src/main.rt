@@ -5,16 +5,17 @@ ghost use mathlib.Core.List.{[]};
 ghost use lib.ListN.{length, take, getD};
 ghost use Rattle.io.specs.Counts.{Counts};
 ghost use Rattle.log_pieces.specs.Text.{shown, seenMask, piecesOf};
+use libc::STDERR_FILENO;
 use libc::STDIN_FILENO;
-use libc::STDOUT_FILENO;
+use stream::Piece;
 
 // Reads a file into a buffer. One byte more than a log may have is enough to refuse an input of any length, and no more is read. No
 // contract can say which bytes were read.
-fn read_log(file: i32, space: &mut [u8]) -> usize
+fn read_log(file: i32, name: &[u8], space: &mut [u8]) -> Piece
     requires { ⌜ 65536 < length (now space) ⌝ }
-    ensures { λ n. ⌜ Counts n (now (space .exit)) ⌝ }
+    ensures { λ p. ⌜ Counts (p .count) (now (space .exit)) ⌝ }
 {
-    io::read_full(file, space)
+    stream::read_full(file, name, space)
 }
 
 // Puts piece i of a log's text into a buffer that has room for any piece.
@@ -33,7 +34,7 @@ fn write_piece(out: &mut [u8], log: &[u8], seen: u32, explained: bool, i: usize)
     requires { ⌜ seen ≡ seenMask (shown (now log)) ⌝ }
 {
     let end = piece(out, log, seen, explained, i);
-    io::write_all(STDOUT_FILENO, &out[..end])
+    stream::write(&out[..end])
 }
 
 // Writes a log's text. A write that fails ends it.
@@ -51,10 +52,14 @@ fn write_text(out: &mut [u8], log: &[u8], explained: bool)
     }
 }
 
-// Shows the log in a file that is open for reading.
-fn show(file: i32, explained: bool) {
+// Shows the log in a file that is open for reading and has this name. What was read before a read that failed is no log.
+fn show(file: i32, name: &[u8], explained: bool) {
     let mut space = [0u8; 65537];
-    let n = read_log(file, &mut space);
+    let piece = read_log(file, name, &mut space);
+    if piece.failed {
+        return;
+    }
+    let n = piece.count;
     let mut out = io::large_buffer();
     write_text(&mut out, &space[..n], explained);
 }
@@ -71,7 +76,14 @@ const HELP: [u8; 396] = *b"\
 
 fn help() {
     let text = HELP;
-    io::write_all(STDOUT_FILENO, &text);
+    stream::write(&text);
+}
+
+fn usage() {
+    io::write_all(
+        STDERR_FILENO,
+        b"usage: logread [--explain] [FILE], or logread --help\n",
+    );
 }
 
 // Shows the log in the file that an argument names, or says why it can't be opened.
@@ -81,14 +93,19 @@ fn show_named(name: &[u8], explained: bool) {
         os::fail(name);
         return;
     }
-    show(file, explained);
+    show(file, name, explained);
     libc::close(file);
 }
 
 // Shows the log that the arguments from one on name: the file, or standard input where there is none.
 fn show_from(i: usize, explained: bool) {
-    if os::arg_count() <= i {
-        show(STDIN_FILENO, explained);
+    let count = os::arg_count();
+    if count <= i {
+        show(STDIN_FILENO, b"standard input", explained);
+        return;
+    }
+    if count - i > 1 {
+        usage();
         return;
     }
     let mut name = io::buffer();
@@ -99,11 +116,11 @@ fn show_from(i: usize, explained: bool) {
 fn main() {
     let mut first = io::buffer();
     let n = os::arg(1, &mut first);
-    if check::same(&first[..n], b"--help") {
-        help();
+    if check::same(&first[..n], b"--explain") {
+        show_from(2, true);
     } else {
-        if check::same(&first[..n], b"--explain") {
-            show_from(2, true);
+        if (os::arg_count() == 2) & check::same(&first[..n], b"--help") {
+            help();
         } else {
             show_from(1, false);
         }

@@ -9,10 +9,10 @@ ghost use lib.ListN.{length, take};
 ghost use Rattle.io.specs.Counts.{Counts};
 ghost use Rattle.text.specs.Append.{Appends};
 ghost use Rattle.trapread.specs.Answer.{fieldText, refusedText, answerText};
-ghost use Rattle.trapread.specs.Lines.{lineAfter, answersIn, lastText, Answered};
+ghost use Rattle.trapread.specs.Lines.{lineAfter, answersIn, endText, Answered};
 use edition::Refusal;
+use libc::STDERR_FILENO;
 use libc::STDIN_FILENO;
-use libc::STDOUT_FILENO;
 use line::Line;
 use line::State;
 use record::Esr;
@@ -84,11 +84,13 @@ fn answers(out: &mut [u8], chunk: &[u8], before: State) -> Progress
     Progress { line, end }
 }
 
-// What a chunk of the input gave: the line that it leaves unended, the end of the answers to those that it ends, and whether it had a byte.
+// What a chunk of the input gave: the line that it leaves unended, the end of the answers to those that it ends, whether it had a byte, and
+// whether the input has ended. A read that fails has no byte, and ends no input.
 struct Turn {
     line: State,
     end: usize,
     more: bool,
+    ended: bool,
 }
 
 // Reads a chunk and puts its answers into a buffer. No contract can say which bytes were read.
@@ -98,8 +100,8 @@ fn next_chunk(out: &mut [u8], line: State) -> Turn
     ensures { λ t. ⌜ Counts (t .end) (now (out .exit)) ⌝ }
 {
     let mut chunk = [0u8; 512];
-    let got = libc::read(STDIN_FILENO, &mut chunk);
-    let n = io::count(got, &chunk);
+    let piece = stream::read(STDIN_FILENO, b"standard input", &mut chunk);
+    let n = piece.count;
     let p = answers(out, &chunk[..n], line);
     let end = p.end;
     let rest = p.line;
@@ -107,15 +109,19 @@ fn next_chunk(out: &mut [u8], line: State) -> Turn
         line: rest,
         end,
         more: n != 0,
+        ended: (n == 0) & !piece.failed,
     }
 }
 
 // Appends the answer to the last line to an empty text. It may lack its newline, but what follows the last newline is no line where it is
-// empty.
-fn last(out: &mut [u8], line: State) -> usize
-    ensures { λ end. ⌜ Appends (lastText line) (now (out .entry)) 0 (now (out .exit)) end ⌝ }
+// empty, nor is what was read before a read or a write that failed.
+fn last(out: &mut [u8], line: State, ended: bool) -> usize
+    ensures { λ end. ⌜ Appends (endText ended line) (now (out .entry)) 0 (now (out .exit)) end ⌝ }
     ensures { λ end. ⌜ Counts end (now (out .exit)) ⌝ }
 {
+    if !ended {
+        return 0;
+    }
     if line.count == 0 {
         return 0;
     }
@@ -126,7 +132,7 @@ fn last(out: &mut [u8], line: State) -> usize
 fn write(out: &mut [u8], end: usize) -> bool
     requires { ⌜ Counts end (now out) ⌝ }
 {
-    io::write_all(STDOUT_FILENO, &out[..end])
+    stream::write(&out[..end])
 }
 
 // Answers the lines of standard input. A proved loop has to end, and nothing says that the input does: it counts down from a number that
@@ -135,16 +141,18 @@ fn answer_input() {
     let mut space = io::large_buffer();
     let out: &mut [u8] = &mut space;
     let mut line = line::start();
+    let mut ended = false;
     let mut turns = u64::MAX;
     while turns > 0 {
         let t = next_chunk(out, line);
         line = t.line;
+        ended = t.ended;
         if !(write(out, t.end) & t.more) {
             break;
         }
         turns -= 1;
     }
-    let end = last(out, line);
+    let end = last(out, line, ended);
     write(out, end);
 }
 
@@ -160,7 +168,14 @@ const HELP: [u8; 441] = *b"\
 
 fn help() {
     let text = HELP;
-    io::write_all(STDOUT_FILENO, &text);
+    stream::write(&text);
+}
+
+fn usage() {
+    io::write_all(
+        STDERR_FILENO,
+        b"usage: trapread reads lines from standard input, and takes no word but --help\n",
+    );
 }
 
 // Whether the first argument asks for help. The program takes no other.
@@ -171,9 +186,14 @@ fn asks_help() -> bool {
 }
 
 fn main() {
-    if asks_help() {
-        help();
-    } else {
+    let count = os::arg_count();
+    if count < 2 {
         answer_input();
+    } else {
+        if (count == 2) & asks_help() {
+            help();
+        } else {
+            usage();
+        }
     }
 }
