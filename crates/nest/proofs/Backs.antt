@@ -2,8 +2,10 @@
 -- 0 and gives the first state again, but for the saved status and link register of the mode entered and the fault registers written, each
 -- as the injection left it.
 use mathlib.Core.Path.{_≡_, refl, sym, ap, ap₂, _∙_, subst}
+use mathlib.Core.Bool.{Bool, true, false, cond}
 use mathlib.Core.List.{[], _∷_}
-use native.Mathlib.Omega.{arith}
+use lib.Dec.{eqb}
+use borrow.Author.Tests.{eq-eqb, ne-eqb}
 use Rattle.signed.specs.declared.Signed.{Signed}
 use Rattle.exception.specs.declared.state.Guest.{Guest}
 use Rattle.guest.specs.declared.answer.Answer as refusal
@@ -120,24 +122,32 @@ module _ (s : Guest) (i : Injection) (r : Injected) (p : Promise s i r) where
       by WideAddress n = refl
       by WideDomain n = refl
 
--- THE FIRST STATE AGAIN, of the call: an injection that is taken comes back with 0, and every field is the first state's but for the saved
--- status and link register of the mode entered and the fault registers written
-pub first-again : (s : Guest) (i : Injection) (b : Back) → GoingBack s i b → answerNumber (b .answer) ≡ 0
-    → SameBut (injectionRow i .mode ∷ []) (injectionWrites i) (b .state) s
-unfolding backOf
-first-again s i b p zero =
-    subst (λ (x : Back). SameBut (injectionRow i .mode ∷ []) (injectionWrites i) (x .state) s)
-    (ap (backFrom s i) (sym taken) ∙ sym (p .result))
-    (undone-same s (injectionRow i) (exceptionOf (injecting i) .leaves s) (proper (injecting i) .link) (injectionWrites i)
-    (proper (injecting i) .faults s))
-  where
-    none : (a : refusal.Answer) → injection-answer.answerNumber a ≡ 0 → a ≡ Accepted
-    none Accepted z = refl
-    none UnsoundStatus z = absurd (omega (arith, z))
-    none UnalignedVbar z = absurd (omega (arith, z))
-    none UnwritableFault z = absurd (omega (arith, z))
-    none WideAddress z = absurd (omega (arith, z))
-    none WideDomain z = absurd (omega (arith, z))
+module _ (s : Guest) (i : Injection) (b : Back) (p : GoingBack s i b) where
+  number-of : injection-answer.answerNumber (injectionAnswer s i) ≡ answerNumber (b .answer)
+  number-of = number-decided s i ∙ sym (p .number)
 
-    taken : injectionAnswer s i ≡ Accepted
-    taken = none (injectionAnswer s i) (number-decided s i ∙ sym (p .number) ∙ zero)
+  -- the call's answer and state, by a test that is known
+  by-test : (t : Bool) → eqb (injection-answer.answerNumber (injectionAnswer s i)) 0 ≡ t
+      → b
+      ≡ cond t (record { answer = Answer.Resumed Returned; state = undoneBy s (injecting i) })
+      (record { answer = Answer.Uninjected (injectionAnswer s i); state = s })
+  unfolding backOf
+  by-test t is =
+      p .result
+      ∙ ap
+      (λ (x : Bool). cond x (record { answer = Answer.Resumed Returned; state = undoneBy s (injecting i) })
+      (record { answer = Answer.Uninjected (injectionAnswer s i); state = s }))
+      is
+
+  -- THE FIRST STATE AGAIN, of the call: where it answers 0, every field is the first state's but for the saved status and link register of
+  -- the mode entered and the fault registers written
+  pub first-again : answerNumber (b .answer) ≡ 0 → SameBut (injectionRow i .mode ∷ []) (injectionWrites i) (b .state) s
+  first-again zero =
+      subst (λ (x : Back). SameBut (injectionRow i .mode ∷ []) (injectionWrites i) (x .state) s)
+      (sym (by-test true (eq-eqb _ 0 (number-of ∙ zero))))
+      (undone-same s (injectionRow i) (exceptionOf (injecting i) .leaves s) (proper (injecting i) .link) (injectionWrites i)
+      (proper (injecting i) .faults s))
+
+  -- a refusal leaves the very state
+  pub refused-untouched : (answerNumber (b .answer) ≡ 0 → ⊥) → b .state ≡ s
+  refused-untouched n = ap (λ (x : Back). x .state) (by-test false (ne-eqb _ 0 (λ z. n (sym number-of ∙ z))))

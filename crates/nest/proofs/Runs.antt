@@ -1,10 +1,12 @@
 -- A WHOLE NEST OF CALLS, each as promised: the law of nests (`nest-back`), of the code.
-use mathlib.Core.Path.{_≡_, sym, ap, _∙_, subst}
+use mathlib.Core.Path.{_≡_, refl, sym, ap, _∙_, subst}
 use mathlib.Core.Bool.{true}
 use mathlib.Core.List.{List, [], _∷_}
 use Rattle.exception.specs.declared.state.Guest.{Guest}
 use Rattle.guest.specs.declared.injector.Injected.{Injected}
+use Rattle.guest.specs.declared.injection.Injection.{Injection}
 use Rattle.guest.specs.Inject.{injected}
+use Rattle.guest.proofs.Answers.{promised}
 use Rattle.pending.specs.declared.Kind.{Kind}
 use Rattle.pending.specs.Step.{Step, stepOf}
 use Rattle.delivery.specs.Answer.{plainAnswer}
@@ -13,6 +15,7 @@ use Rattle.resume.specs.declared.Resumed.{Resumed}
 use Rattle.resume.specs.Return.{returned}
 use Rattle.resume.specs.Same.{SameBut}
 use Rattle.resume.specs.Nest.{modesOf, writtenBy, distinct, Typed}
+use Rattle.resume.proofs.Answers as return
 use Rattle.nest.specs.Entry.{Entry, injecting, delivering, TakenIn, after, correctionOf}
 use Rattle.nest.specs.Nest.{AllTaken, nested, AllReturn, exceptions}
 use Rattle.nest.specs.Run.{Entered, Made, Run, entriesOf, AllReturned}
@@ -65,4 +68,30 @@ run-back ms s last typed run d =
     let law = nest-back (entriesOf ms) s typed (made .0) d in (
       all-returned ms s last run (law .0),
       subst (λ (g : Guest). SameBut (modesOf (exceptions (entriesOf ms))) (writtenBy (exceptions (entriesOf ms))) g s) (made .1) (law .1),
+    )
+
+-- AND THERE ARE SUCH RUNS: every nest of injections that are taken is one, of calls that answer as defined
+abbrev pub injections : List Injection → List Entry
+injections [] = []
+injections (i ∷ is) = injecting i ∷ injections is
+
+abbrev pub defined : Guest → List Entry → List Made
+defined s [] = []
+defined s (e ∷ es) =
+    record { entry = e; left = after s e; back = returned (nested (after s e) es) (correctionOf s e) } ∷ defined (after s e) es
+
+pub runs-there : (is : List Injection) (s : Guest) → AllTaken s (injections is)
+    → Run s (defined s (injections is)) (nested s (injections is))
+unfolding injected
+runs-there [] s t = refl
+runs-there (i ∷ is) s t =
+    let left = after s (injecting i) in (
+      (injected s i, promised s i refl, t .0, refl),
+      (
+        nested left (injections is),
+        runs-there is left (t .1),
+        return.promised (nested left (injections is)) (correctionOf s (injecting i))
+            refl,
+      ),
+      refl,
     )

@@ -1,5 +1,5 @@
--- `log_rewrite::labelled::write` meets its contract: a walk of its MIR, by hand. A struct is made of each slice of words, in a local, and
--- `log_writer::write` is called on them. All that the proof knows of it is that it meets its contract. Slices that are lent by `&` are
+-- `log_rewrite::labelled::write_raw` meets its contract: a walk of its MIR, by hand. A struct is made of each slice of words, in a local,
+-- and `log_writer::write` is called on them. All that the proof knows of it is that it meets its contract. Slices that are lent by `&` are
 -- Copy: what each owns is had twice, one copy is kept for the exit, and the other goes to the callee, that of words as what its struct
 -- owns. The buffer goes to the callee for good, at its own lifetime, share and name. Assumes nothing.
 use mathlib.Core.Path.{_≡_, refl}
@@ -61,10 +61,10 @@ use Rattle.log_writer.proofs.write as writing
 use Rattle.log_writer.proofs.write.Symbol as writing-def
 use Rattle.log_writer.proofs.write.Symbol.{name as #log-writer·write}
 use Rattle.log_writer.proofs.write.Met as writing-thm
-use Rattle.log_rewrite.proofs.labelled.write.Key.{name as #labelled·write}
-use Rattle.log_rewrite.proofs.labelled.write as labelled
-use Rattle.log_rewrite.proofs.labelled.write.Statement as stated
-use Rattle.log_rewrite.proofs.labelled.write.Code as code
+use Rattle.log_rewrite.proofs.labelled.write_raw.Key.{name as #labelled·write}
+use Rattle.log_rewrite.proofs.labelled.write_raw as labelled
+use Rattle.log_rewrite.proofs.labelled.write_raw.Statement as stated
+use Rattle.log_rewrite.proofs.labelled.write_raw.Code as code
 
 -- the lifetime of what is lent by `&`, and the structs' types at it
 abbrev α : Lfts 2 → NamedLft
@@ -329,9 +329,9 @@ write-meets 𝓤 H A W mem run 𝓣 known =
     (labelled.clauses 𝓤 H A mem run) (WpFn 𝓤 H (𝓣 .C) (𝓣 .Λ) code.function) (WpFn-mono 𝓤 H (W .laws) 𝓣 code.function)
     (write-walks 𝓤 H A W mem run (𝓣 .C) (𝓣 .Λ) (fmOf 𝓤 H (W .laws) 𝓣) known)
 
-pub write-spec : {M : Type 1} → stated.statement M
+pub write-raw-spec : {M : Type 1} → stated.statement M
 unfolding code.routine tablesOf
-write-spec 𝓤 H 𝓜 𝓖 𝓡 =
+write-raw-spec 𝓤 H 𝓜 𝓖 𝓡 =
     entered 𝓤 H (tripleOf 𝓤 H (𝓖 .A) labelled.signature (labelled.spec 𝓤 H (𝓖 .A) (𝓜 .mem) (𝓡 .run)))
     (tables 𝓤 H 𝓜 𝓡 code.env .C) (tables 𝓤 H 𝓜 𝓡 code.env .Λ) #labelled·write code.function (code.unfolded 𝓤 H 𝓜 𝓡)
     (write-meets 𝓤 H (𝓖 .A) (givenOf 𝓤 H 𝓜 𝓖) (𝓜 .mem) (𝓡 .run) (tablesOf 𝓤 H 𝓜 (tables 𝓤 H 𝓜 𝓡 code.env))
