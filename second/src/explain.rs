@@ -458,7 +458,7 @@ fn short_fault(code: u32) -> Option<String> {
         0x30 => "TLB conflict abort".into(),
         0x34 => "IMPLEMENTATION DEFINED fault (Lockdown)".into(),
         0x35 => "IMPLEMENTATION DEFINED fault (Unsupported Exclusive access)".into(),
-        0x00..=0x0f => {
+        0x01..=0x0f => {
             let kinds = ["Address size", "Translation", "Access flag", "Permission"];
             return has_level(format!("{} fault", kinds[code as usize / 4]));
         }
