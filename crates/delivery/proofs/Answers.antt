@@ -65,6 +65,4 @@ promised q s r e =
           same-number (r .outcome .answer)
           ∙ ap (λ (x : Step Guest). plain.answerNumber (x .answer)) e
           ∙ step-number guestDelivery (listOf q) s;
-      mask = refl;
-      count = refl;
     }

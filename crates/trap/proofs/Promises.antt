@@ -11,9 +11,10 @@ use Rattle.edition.specs.Feature.{editions}
 use Rattle.edition.specs.Mask.{maskOf, countBelow}
 use Rattle.edition.specs.Judge.{refusalNumber}
 use Rattle.edition.specs.declared.Refusal.the-variants.{UnknownEdition, UpperHalf, UnknownClass, ShortInstruction, NoEdition, OtherEditions}
-use Rattle.form.specs.Call.{sixOnly, callTests}
+use Rattle.promise.specs.Promise.{sixOnly}
+use Rattle.form.specs.Call.{callTests}
 use Rattle.form.proofs.Numbers.{call-through}
-use Rattle.form.proofs.Promises.{kept}
+use Rattle.promise.proofs.Promises.{kept}
 use Rattle.record.specs.Addresses.{addressesOf}
 use Rattle.record.specs.Split.{recordAt}
 use Rattle.record.specs.declared.origin.Origin.{Origin}
