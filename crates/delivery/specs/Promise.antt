@@ -11,5 +11,5 @@ use Rattle.delivery.specs.Answer.{answerNumber, plainAnswer}
 use Rattle.delivery.specs.Deliver.{deliveryNumbers, guestDelivery}
 
 pub record Delivering (q : Queue) (s : Guest) (r : Delivered) : Type 0 where
-  pub result : stepTo (plainAnswer (r .outcome .answer)) (listOf (r .outcome .queue)) (r .state) ≡ stepOf guestDelivery (listOf q) s
+  pub answer : stepTo (plainAnswer (r .outcome .answer)) (listOf (r .outcome .queue)) (r .state) ≡ stepOf guestDelivery (listOf q) s
   pub number : answerNumber (r .outcome .answer) ≡ decide (deliveryNumbers s) 0

@@ -10,7 +10,7 @@ use Rattle.guest.specs.declared.injection.Injection.{Injection}
 use Rattle.guest.specs.declared.injector.Injected.{Injected}
 use Rattle.guest.specs.Injection as injection
 use Rattle.guest.specs.Inject.{injected}
-use Rattle.guest.specs.Promise.{Promise}
+use Rattle.guest.specs.Promise.{Injecting}
 use Rattle.pending.specs.declared.Kind.{Kind}
 use Rattle.pending.specs.declared.Queue.{Queue}
 use Rattle.pending.specs.Reading.{listOf}
@@ -51,19 +51,19 @@ first-state-again s e typed t =
 -- ---- of the calls, as they promise
 
 -- `inject`, and then `resume` on what it left, with what `guest::correction` tells
-pub injected-and-returned : (s : Guest) (i : Injection) (r : Injected) (b : Resumed) → Typed s → Promise s i r → r .answer ≡ Accepted
+pub injected-and-returned : (s : Guest) (i : Injection) (r : Injected) (b : Resumed) → Typed s → Injecting s i r → r .answer ≡ Accepted
     → Returning (r .state) (injection.correctionOf s i) b → b ≡ record { answer = Returned; state = undoneBy s (injecting i) }
 unfolding injected
 injected-and-returned s i r b typed p t q =
-    q .result
-    ∙ ap (λ (x : Injected). returned (x .state) (injection.correctionOf s i)) (p .result)
-    ∙ returned-right-after s (injecting i) typed (sym (ap (λ (x : Injected). x .answer) (p .result)) ∙ t)
+    q .answer
+    ∙ ap (λ (x : Injected). returned (x .state) (injection.correctionOf s i)) (p .answer)
+    ∙ returned-right-after s (injecting i) typed (sym (ap (λ (x : Injected). x .answer) (p .answer)) ∙ t)
 
 -- `deliver`, and then `resume` on what it left, with what `delivery::correction` tells
 pub delivered-and-returned : (q : Queue) (s : Guest) (k : Kind) (r : struct.Delivered) (b : Resumed) → Typed s → Delivering q s r
     → r .outcome .answer ≡ answer.the-variants.Delivered k → Returning (r .state) (delivery.correctionOf s k) b
     → b ≡ record { answer = Returned; state = undoneBy s (delivering (listOf q) k) }
 delivered-and-returned q s k r b typed p t h =
-    h .result
-    ∙ ap (λ (x : Step Guest). returned (x .state) (delivery.correctionOf s k)) (p .result)
-    ∙ returned-right-after s (delivering (listOf q) k) typed (sym (ap (λ (x : Step Guest). x .answer) (p .result)) ∙ ap plainAnswer t)
+    h .answer
+    ∙ ap (λ (x : Step Guest). returned (x .state) (delivery.correctionOf s k)) (p .answer)
+    ∙ returned-right-after s (delivering (listOf q) k) typed (sym (ap (λ (x : Step Guest). x .answer) (p .answer)) ∙ ap plainAnswer t)
