@@ -5,8 +5,8 @@ use mathlib.Core.Bool.{true, false}
 use mathlib.Core.List.{List, []}
 use Prim.Native.Nat.{ℕ}
 use Rattle.bits.specs.Field.{fieldOf}
-use Rattle.bits.specs.Decide.{decide}
-use Rattle.bits.proofs.Deciding.{decide-relabel}
+use Rattle.promise.specs.Promise.{Answers}
+use Rattle.promise.proofs.Promises.{by-tests}
 use Rattle.status.specs.Sound.{sound}
 use Rattle.status.specs.Entry.{t32}
 use Rattle.exception.specs.declared.state.Guest.{Guest}
@@ -23,9 +23,9 @@ use Rattle.a32.specs.declared.instruction.Answer.{Answer}
 use Rattle.a32.specs.declared.instruction.Answer.the-variants.{Taken, UnsoundStatus, T32State, NoForm}
 
 module _ (s : Guest) (w : ℕ) where
-  pub describe-number : answerNumber (describedAnswer s w) ≡ decide (describeNumbers s w) 0
+  pub answered : {a : Answer} → a ≡ describedAnswer s w → Answers answerNumber (describedAnswer s w) (describeNumbers s w) a
   unfolding describedAnswer
-  describe-number = decide-relabel answerNumber (describeTests s w) (Taken (accessOf s (fieldsAt w)))
+  answered = by-tests answerNumber (describeTests s w) (Taken (accessOf s (fieldsAt w))) refl refl
 
   -- the tests, one after the other
   pub first-fails : sound (s .marks) (s .status) ≡ false → describedAnswer s w ≡ UnsoundStatus
@@ -48,14 +48,7 @@ module _ (s : Guest) (w : ℕ) where
 
   promised : {a : Answer} {registers : List ℕ} → a ≡ describedAnswer s w → registers ≡ registersIn a
       → Describing s w (record { answer = a; registers = registers })
-  promised same held = record {
-    answer = same;
-    number = ap answerNumber same
-        ∙ describe-number;
-    mask = refl;
-    count = refl;
-    registers = held;
-  }
+  promised same held = record { answered = answered same; registers = held }
 
   pub unsound : sound (s .marks) (s .status) ≡ false → Describing s w (record { answer = UnsoundStatus; registers = padded 16 [] })
   unsound k = promised (sym (first-fails k)) refl

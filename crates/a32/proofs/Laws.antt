@@ -5,8 +5,8 @@ use mathlib.Core.Bool.{Bool, true, false}
 use mathlib.Core.Logic.{_↔_}
 use Prim.Native.Nat.{ℕ}
 use Rattle.bits.specs.Decide.{FailsWith}
-use Rattle.bits.proofs.Deciding.{decided-with-exactly}
 use Rattle.bits.proofs.Arms.{absurd-answer}
+use Rattle.promise.proofs.Promises.{fails-exactly}
 use Rattle.status.specs.Sound.{sound}
 use Rattle.status.specs.Entry.{t32}
 use Rattle.exception.specs.declared.state.Guest.{Guest}
@@ -20,13 +20,11 @@ use Rattle.a32_rule.proofs.Forms.{decode-exactly, taken-form}
 use Rattle.a32_access.specs.declared.access.Access.{Access}
 use Rattle.a32.specs.Promise.{accessOf, answerNumber, describeNumbers, describedAnswer}
 use Rattle.a32.specs.declared.instruction.Answer.the-variants.{Taken}
-use Rattle.a32.proofs.Describing.{describe-number, first-fails, second-fails, third-fails, none-fails}
+use Rattle.a32.proofs.Describing.{answered, first-fails, second-fails, third-fails, none-fails}
 
 -- EACH NUMBER EXACTLY: 9, then 19 in T32 state, then 19 for the word, and 0 where none fails
 pub describe-exactly : (s : Guest) (w k : ℕ) → (answerNumber (describedAnswer s w) ≡ k) ↔ FailsWith k (describeNumbers s w)
-describe-exactly s w k =
-    let law = decided-with-exactly (describeNumbers s w) k in
-    (λ t. law .0 (sym (describe-number s w) ∙ t), λ f. describe-number s w ∙ law .1 f)
+describe-exactly s w = fails-exactly (describeNumbers s w) (answered s w refl)
 
 -- WHAT IS DESCRIBED: exactly a sound state's A32 instruction that some legal fields make, by those fields
 pub described-exactly : (s : Guest) (w : ℕ) (a : Access)

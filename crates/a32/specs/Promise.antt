@@ -5,7 +5,8 @@ use mathlib.Core.Path.{_≡_}
 use mathlib.Core.Bool.{not}
 use mathlib.Core.List.{List, [], _∷_}
 use Rattle.bits.specs.Field.{fieldOf}
-use Rattle.bits.specs.Decide.{Test, needs, decide}
+use Rattle.bits.specs.Decide.{Test, needs, decide, relabel}
+use Rattle.promise.specs.Promise.{Answers}
 use Rattle.status.specs.Sound.{sound}
 use Rattle.status.specs.Entry.{t32}
 use Rattle.exception.specs.declared.state.Guest.{Guest}
@@ -29,21 +30,14 @@ answerNumber UnsoundStatus = 9
 answerNumber T32State = 19
 answerNumber NoForm = 19
 
--- no refusal but 6 carries a mask or a count
-abbrev pub answerMask : Answer → ℕ
-answerMask a = 0
-
-abbrev pub answerCount : Answer → ℕ
-answerCount a = 0
-
--- the tests in their order, each with its number; 0 comes where none fails
-abbrev pub describeNumbers : Guest → ℕ → List (Test ℕ)
-describeNumbers s w = needs (sound (s .marks) (s .status)) 9 ∷ needs (not (t32 (s .status))) 19 ∷ needs (isForm w) 19 ∷ []
-
--- the same tests, each with its answer
+-- the tests in their order, each with its answer
 abbrev pub describeTests : Guest → ℕ → List (Test Answer)
 describeTests s w =
     needs (sound (s .marks) (s .status)) UnsoundStatus ∷ needs (not (t32 (s .status))) T32State ∷ needs (isForm w) NoForm ∷ []
+
+-- and with its number; 0 comes where none fails
+abbrev pub describeNumbers : Guest → ℕ → List (Test ℕ)
+describeNumbers s w = relabel answerNumber (describeTests s w)
 
 -- where none fails, the word's own fields are legal and make it (a32_rule, `decode-exactly`)
 unfoldable pub describedAnswer : Guest → ℕ → Answer
@@ -56,10 +50,7 @@ registersIn UnsoundStatus = padded 16 []
 registersIn T32State = padded 16 []
 registersIn NoForm = padded 16 []
 
--- THE PROMISE: the answer with its number, mask and count, and the registers
+-- THE PROMISE: the answer with its number, and the registers
 pub record Describing (s : Guest) (w : ℕ) (r : Described) : Type 0 where
-  pub answer : r .answer ≡ describedAnswer s w
-  pub number : answerNumber (r .answer) ≡ decide (describeNumbers s w) 0
-  pub mask : answerMask (r .answer) ≡ 0
-  pub count : answerCount (r .answer) ≡ 0
+  pub answered : Answers answerNumber (describedAnswer s w) (describeNumbers s w) (r .answer)
   pub registers : r .registers ≡ registersIn (r .answer)

@@ -7,18 +7,19 @@ use Prim.Native.Nat.{ℕ}
 use lib.Dec.{T}
 use Rattle.bits.specs.Among.{among}
 use Rattle.bits.specs.Decide.{decide, FailsWith}
-use Rattle.bits.proofs.Deciding.{decided-with-exactly, answer-is}
+use Rattle.bits.proofs.Deciding.{answer-is}
+use Rattle.promise.proofs.Promises.{fails-exactly, promised as answers}
 use Rattle.exception.specs.declared.state.Guest.{Guest}
 use Rattle.a32_access.specs.Transferred.{registersOf, padded}
 use Rattle.a32_access.specs.declared.access.Access.{Access}
 use Rattle.a32_transfer.specs.Shape.{shapeOf}
 use Rattle.a32.specs.declared.instruction.Answer.{Answer as Described}
 use Rattle.a32.specs.declared.instruction.Answer.the-variants as described
-use Rattle.a32.specs.Promise.{answerNumber, describedAnswer}
-use Rattle.a32.proofs.Describing.{describe-number}
+use Rattle.a32.specs.Promise.{answerNumber, describeNumbers, describedAnswer}
+use Rattle.a32.proofs.Describing.{answered}
 use Rattle.a32_finish.specs.declared.answer.Finished.{Finished}
 use Rattle.a32_finish.specs.Answer.{finishNumber}
-use Rattle.a32_finish.specs.Finish.{finishNumbers, toLoad, toStore, performed, refusing, finishedBy, finished}
+use Rattle.a32_finish.specs.Finish.{toLoad, toStore, performed, refusing, finishedBy, finished}
 use Rattle.a32_finish.specs.Promise.{AccessPromise}
 
 -- what was described is what is finished
@@ -45,13 +46,13 @@ number-described s described.UnsoundStatus values = refl
 number-described s described.T32State values = refl
 number-described s described.NoForm values = refl
 
-pub number-decided : (s : Guest) (w : ℕ) (values : List ℕ) → numberIn (finished s w values) ≡ decide (finishNumbers s w) 0
+pub number-decided : (s : Guest) (w : ℕ) (values : List ℕ) → numberIn (finished s w values) ≡ decide (describeNumbers s w) 0
 unfolding finished
-number-decided s w values = number-described s (describedAnswer s w) values ∙ describe-number s w
+number-decided s w values = number-described s (describedAnswer s w) values ∙ answered s w refl .number
 
 -- what the calls promise of the answer and the state, by their equation alone
 pub promised : (s : Guest) (w : ℕ) (values : List ℕ) {f : Finished} → f ≡ finished s w values → AccessPromise s w values f
-promised s w values e = record { result = e; number = ap numberIn e ∙ number-decided s w values; mask = refl; count = refl }
+promised s w values e = answers numberIn (describeNumbers s w) e (number-decided s w values)
 
 -- A REFUSAL gives back the very state
 refused-description : (s : Guest) (d : Described) (values : List ℕ) → (numberIn (finishedBy s d values) ≡ 0 → ⊥)
@@ -66,12 +67,9 @@ unfolding finished
 refused-untouched s w values = refused-description s (describedAnswer s w) values
 
 -- finishing a described load or store answers 0, 9 or 19
-pub number-listed : (s : Guest) (w : ℕ) → T (among (0 ∷ 9 ∷ 19 ∷ []) (decide (finishNumbers s w) 0))
-number-listed s w = answer-is (λ n. T (among (0 ∷ 9 ∷ 19 ∷ []) n)) (finishNumbers s w) 0 (tt, (tt, (tt, tt))) tt
+pub number-listed : (s : Guest) (w : ℕ) → T (among (0 ∷ 9 ∷ 19 ∷ []) (decide (describeNumbers s w) 0))
+number-listed s w = answer-is (λ n. T (among (0 ∷ 9 ∷ 19 ∷ []) n)) (describeNumbers s w) 0 (tt, (tt, (tt, tt))) tt
 
 -- EACH NUMBER EXACTLY: 9, then 19 in T32 state, then 19 for the word, and 0 where none fails
-pub decided : (s : Guest) (w : ℕ) (values : List ℕ) (k : ℕ) → (numberIn (finished s w values) ≡ k) ↔ FailsWith k (finishNumbers s w)
-decided s w values k = (
-  λ e. decided-with-exactly (finishNumbers s w) k .0 (sym (number-decided s w values) ∙ e),
-  λ f. number-decided s w values ∙ decided-with-exactly (finishNumbers s w) k .1 f,
-)
+pub decided : (s : Guest) (w : ℕ) (values : List ℕ) (k : ℕ) → (numberIn (finished s w values) ≡ k) ↔ FailsWith k (describeNumbers s w)
+decided s w values = fails-exactly (describeNumbers s w) (promised s w values refl)

@@ -1,4 +1,4 @@
--- The number, mask and count of each answer: only refusal 6 has a mask and a count.
+-- The number of each answer.
 use Prim.Native.Nat.{ℕ}
 use Rattle.a32_finish.specs.declared.answer.Answer.{Answer}
 use Rattle.a32_finish.specs.declared.answer.Answer.the-variants.{Loaded, Stored, UnsoundStatus, T32State, NoForm}
@@ -9,9 +9,3 @@ finishNumber (Stored a) = 0
 finishNumber UnsoundStatus = 9
 finishNumber T32State = 19
 finishNumber NoForm = 19
-
-abbrev pub finishMask : Answer → ℕ
-finishMask a = 0
-
-abbrev pub finishCount : Answer → ℕ
-finishCount a = 0

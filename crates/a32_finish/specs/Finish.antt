@@ -1,16 +1,12 @@
 -- A described load or store that is finished: the answer, the addresses and values for the device, and the whole state after it. What is
 -- finished is what describing the word in the same state answers (crate a32), so that its tests are those.
 use Prim.Native.Nat.{ℕ, min}
-use mathlib.Core.Bool.{not, cond, true}
-use mathlib.Core.List.{List, [], _∷_}
-use Rattle.bits.specs.Decide.{Test, needs}
+use mathlib.Core.Bool.{cond, true}
+use mathlib.Core.List.{List, []}
 use Rattle.bits.specs.Field.{fieldOf}
-use Rattle.status.specs.Entry.{t32}
-use Rattle.status.specs.Sound.{sound}
 use Rattle.exception.specs.declared.state.Guest.{Guest}
 use Rattle.step.specs.Step.{stepped}
 use Rattle.device.specs.Finish.{bigEndian}
-use Rattle.a32_rule.specs.Answer.{isForm}
 use Rattle.a32_access.specs.Transferred.{registersOf, padded}
 use Rattle.a32_access.specs.declared.access.Access.{Access}
 use Rattle.a32_transfer.specs.declared.landing.Landing.{Landing}
@@ -27,10 +23,6 @@ use Rattle.a32_finish.specs.declared.answer.Answer.the-variants.{Loaded,
 use Rattle.a32_finish.specs.declared.answer.Outcome.{Outcome}
 use Rattle.a32_finish.specs.declared.answer.Finished.{Finished}
 use Rattle.a32_finish.specs.Branch.{branched}
-
--- the tests in their order, each with its number; 0 comes where none fails
-abbrev pub finishNumbers : Guest → ℕ → List (Test ℕ)
-finishNumbers s w = needs (sound (s .marks) (s .status)) 9 ∷ needs (not (t32 (s .status))) 19 ∷ needs (isForm w) 19 ∷ []
 
 -- M, bits 4:0 of the status word
 abbrev pub modeOf : ℕ → ℕ

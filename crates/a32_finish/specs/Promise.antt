@@ -1,16 +1,13 @@
 -- What the two calls that finish a described load or store promise: the answer with what goes to the device and the whole state after it,
--- and the answer's number, mask and count.
-use mathlib.Core.Path.{_≡_}
+-- and the answer's number.
 use mathlib.Core.List.{List}
 use Prim.Native.Nat.{ℕ}
-use Rattle.bits.specs.Decide.{decide}
+use Rattle.promise.specs.Promise.{Answers}
 use Rattle.exception.specs.declared.state.Guest.{Guest}
+use Rattle.a32.specs.Promise.{describeNumbers}
 use Rattle.a32_finish.specs.declared.answer.Finished.{Finished}
-use Rattle.a32_finish.specs.Answer.{finishNumber, finishMask, finishCount}
-use Rattle.a32_finish.specs.Finish.{finishNumbers, finished}
+use Rattle.a32_finish.specs.Answer.{finishNumber}
+use Rattle.a32_finish.specs.Finish.{finished}
 
-pub record AccessPromise (s : Guest) (w : ℕ) (values : List ℕ) (f : Finished) : Type 0 where
-  pub result : f ≡ finished s w values
-  pub number : finishNumber (f .outcome .answer) ≡ decide (finishNumbers s w) 0
-  pub mask : finishMask (f .outcome .answer) ≡ 0
-  pub count : finishCount (f .outcome .answer) ≡ 0
+abbrev pub AccessPromise : Guest → ℕ → List ℕ → Finished → Type 0
+AccessPromise s w values = Answers (λ f. finishNumber (f .outcome .answer)) (finished s w values) (describeNumbers s w)

@@ -6,8 +6,9 @@ use mathlib.Core.List.{[], _∷_}
 use Prim.Native.Nat.{ℕ, _^_, _<_}
 use borrow.Author.Tests.{eq-eqb, ne-eqb}
 use lib.Dec.{eqb}
-use Rattle.bits.specs.Decide.{needs, decide}
+use Rattle.bits.specs.Decide.{needs}
 use Rattle.bits.specs.Inner.{joinedFrom}
+use Rattle.promise.proofs.Promises.{by-tests}
 use Rattle.form.specs.Form as Form
 use Rattle.a32_fields.specs.Layout.{fieldsOf, fieldsWord}
 use Rattle.a32_fields.specs.Split.{fieldsAt}
@@ -47,18 +48,9 @@ module _ (w : ℕ) where
   unfolding decodeOf
   decode-refused h = ap (λ (b : Bool). cond b (Decoded.Taken (fieldsAt w)) Decoded.Refused) h
 
-  decoding : Decoding w (decodeOf w)
-  decoding = record { answer = refl; number = by (isForm w) refl; mask = refl; count = refl }
-    where
-      by : (b : Bool) → isForm w ≡ b → numberDecoded (decodeOf w) ≡ decide (needs (isForm w) 19 ∷ []) 0
-      by true h = ap numberDecoded (decode-taken h) ∙ sym (ap (λ (b : Bool). cond b 0 19) h)
-      by false h = ap numberDecoded (decode-refused h) ∙ sym (ap (λ (b : Bool). cond b 0 19) h)
-
-  pub decode-number : numberDecoded (decodeOf w) ≡ decide (needs (isForm w) 19 ∷ []) 0
-  decode-number = decoding .number
-
-  decodes : {d : Decoded} → d ≡ decodeOf w → Decoding w d
-  decodes same = subst (Decoding w) (sym same) decoding
+  pub decodes : {d : Decoded} → d ≡ decodeOf w → Decoding w d
+  unfolding decodeOf
+  decodes = by-tests numberDecoded (needs (isForm w) Decoded.Refused ∷ []) (Decoded.Taken (fieldsAt w)) refl refl
 
   -- the two ways in which the code answers
   pub taken : {f : Fields} {j : ℕ} {l : Bool} → f ≡ fieldsAt w → j ≡ joinedFrom 0 (fieldsOf f) → j ≡ w → l ≡ legal f → l ≡ true
@@ -84,18 +76,9 @@ module _ (f : Fields) where
   unfolding encodeOf
   encode-refused h = ap (λ (b : Bool). cond b (Encoded.Word (fieldsWord f)) Encoded.Refused) h
 
-  encoding : Encoding f (encodeOf f)
-  encoding = record { answer = refl; number = by (legal f) refl; mask = refl; count = refl }
-    where
-      by : (b : Bool) → legal f ≡ b → numberEncoded (encodeOf f) ≡ decide (needs (legal f) 19 ∷ []) 0
-      by true h = ap numberEncoded (encode-word h) ∙ sym (ap (λ (b : Bool). cond b 0 19) h)
-      by false h = ap numberEncoded (encode-refused h) ∙ sym (ap (λ (b : Bool). cond b 0 19) h)
-
-  pub encode-number : numberEncoded (encodeOf f) ≡ decide (needs (legal f) 19 ∷ []) 0
-  encode-number = encoding .number
-
-  encodes : {e : Encoded} → e ≡ encodeOf f → Encoding f e
-  encodes same = subst (Encoding f) (sym same) encoding
+  pub encodes : {e : Encoded} → e ≡ encodeOf f → Encoding f e
+  unfolding encodeOf
+  encodes = by-tests numberEncoded (needs (legal f) Encoded.Refused ∷ []) (Encoded.Word (fieldsWord f)) refl refl
 
   pub joined-below : {j : ℕ} → legal f ≡ true → j ≡ joinedFrom 0 (fieldsOf f) → j < 2 ^ 32
   joined-below h put = subst (λ (n : ℕ). n < 2 ^ 32) (sym (put ∙ joined-fields f (legal-fits f h))) (word-fits f (legal-fits f h))

@@ -8,7 +8,7 @@ use mathlib.Core.Logic.{_↔_}
 use Prim.Native.Nat.{ℕ}
 use Rattle.bits.specs.Decide.{needs, FirstFails}
 use Rattle.bits.proofs.Arms.{absurd-answer}
-use Rattle.bits.proofs.Deciding.{decided-exactly}
+use Rattle.promise.proofs.Promises.{first-exactly}
 use Rattle.form.proofs.Forms as Forms
 use Rattle.a32_fields.specs.Layout.{fieldsWord}
 use Rattle.a32_fields.specs.Split.{fieldsAt}
@@ -18,7 +18,7 @@ use Rattle.a32_rule.specs.Answer.{loadsAndStores, isForm, decodeOf, enco
 use Rattle.a32_rule.specs.declared.answer.Decoded.{Decoded}
 use Rattle.a32_rule.specs.declared.answer.Encoded.{Encoded}
 use Rattle.a32_rule.proofs.Instance.{has-legal, sound}
-use Rattle.a32_rule.proofs.Answers.{decode-taken, decode-refused, encode-word, encode-refused, decode-number, encode-number}
+use Rattle.a32_rule.proofs.Answers.{decode-taken, decode-refused, encode-word, encode-refused, decodes, encodes}
 
 -- A WORD IS ONE OF THESE FORMS exactly when some legal fields make it
 pub is-form-exactly : (w : ℕ) → (isForm w ≡ true) ↔ ((f : Fields) × (legal f ≡ true) × (fieldsWord f ≡ w))
@@ -78,11 +78,7 @@ decode-as-encode w f = (
 
 -- each number exactly: 0 or 19
 pub decode-refused-exactly : (w k : ℕ) → (numberDecoded (decodeOf w) ≡ k) ↔ FirstFails k (needs (isForm w) 19 ∷ [])
-decode-refused-exactly w k =
-    let law = decided-exactly (needs (isForm w) 19 ∷ []) tt k in
-    (λ t. law .0 (sym (decode-number w) ∙ t), λ f. decode-number w ∙ law .1 f)
+decode-refused-exactly w = first-exactly (needs (isForm w) 19 ∷ []) tt (decodes w refl)
 
 pub encode-refused-exactly : (f : Fields) (k : ℕ) → (numberEncoded (encodeOf f) ≡ k) ↔ FirstFails k (needs (legal f) 19 ∷ [])
-encode-refused-exactly f k =
-    let law = decided-exactly (needs (legal f) 19 ∷ []) tt k in
-    (λ t. law .0 (sym (encode-number f) ∙ t), λ g. encode-number f ∙ law .1 g)
+encode-refused-exactly f = first-exactly (needs (legal f) 19 ∷ []) tt (encodes f refl)

@@ -1,10 +1,10 @@
 -- Reading a word and writing fields (02, C-18): 0 with the fields or the word, or 19.
 use Prim.Native.Nat.{ℕ}
-use mathlib.Core.Path.{_≡_}
 use mathlib.Core.Bool.{Bool, cond, _&&_}
 use mathlib.Core.List.{[], _∷_}
 use lib.Dec.{eqb}
-use Rattle.bits.specs.Decide.{needs, decide}
+use Rattle.bits.specs.Decide.{needs}
+use Rattle.promise.specs.Promise.{Answers}
 use Rattle.form.specs.Form as Form
 use Rattle.a32_fields.specs.Layout.{fieldsWord}
 use Rattle.a32_rule.specs.Legal.{legal}
@@ -40,28 +40,9 @@ abbrev pub numberEncoded : Encoded → ℕ
 numberEncoded (Encoded.Word w) = 0
 numberEncoded Encoded.Refused = 19
 
--- no refusal but 6 carries a mask or a count
-abbrev pub maskDecoded : Decoded → ℕ
-maskDecoded d = 0
+-- THE PROMISES: the answer, and its number
+abbrev pub Decoding : ℕ → Decoded → Type 0
+Decoding w = Answers numberDecoded (decodeOf w) (needs (isForm w) 19 ∷ [])
 
-abbrev pub countDecoded : Decoded → ℕ
-countDecoded d = 0
-
-abbrev pub maskEncoded : Encoded → ℕ
-maskEncoded e = 0
-
-abbrev pub countEncoded : Encoded → ℕ
-countEncoded e = 0
-
--- THE PROMISES: the answer, its number, mask and count
-pub record Decoding (w : ℕ) (d : Decoded) : Type 0 where
-  pub answer : d ≡ decodeOf w
-  pub number : numberDecoded d ≡ decide (needs (isForm w) 19 ∷ []) 0
-  pub mask : maskDecoded d ≡ 0
-  pub count : countDecoded d ≡ 0
-
-pub record Encoding (f : Fields) (e : Encoded) : Type 0 where
-  pub answer : e ≡ encodeOf f
-  pub number : numberEncoded e ≡ decide (needs (legal f) 19 ∷ []) 0
-  pub mask : maskEncoded e ≡ 0
-  pub count : countEncoded e ≡ 0
+abbrev pub Encoding : Fields → Encoded → Type 0
+Encoding f = Answers numberEncoded (encodeOf f) (needs (legal f) 19 ∷ [])

@@ -8,7 +8,8 @@ use lib.Dec.{T}
 use Rattle.bits.specs.Among.{among}
 use Rattle.bits.specs.Decide.{needs, decide, FirstFails}
 use Rattle.bits.proofs.Arms.{told}
-use Rattle.bits.proofs.Deciding.{decide-relabel, decided-exactly, answer-is}
+use Rattle.bits.proofs.Deciding.{decide-relabel, answer-is}
+use Rattle.promise.proofs.Promises.{first-exactly, promised as answers}
 use Rattle.record.specs.declared.kinds.Mcr.{Mcr}
 use Rattle.record.specs.declared.kinds.Mcrr.{Mcrr}
 use Rattle.record.specs.declared.kinds.Record.{Record}
@@ -77,8 +78,7 @@ number-decided s r first second =
 -- what the calls promise of the answer and the state, by their equation alone
 pub promised : (s : Guest) (r : Record) (first second : ℕ) {f : Finished} → f ≡ finished s r first second
     → TransferPromise s r first second f
-promised s r first second e =
-    record { result = e; number = ap numberIn e ∙ number-decided s r first second; mask = refl; count = refl }
+promised s r first second e = answers numberIn (transferNumbers s r) e (number-decided s r first second)
 
 -- A REFUSAL gives back the very state
 refused-kind : (s : Guest) (t : Transfer) (first second : ℕ) → (numberIn (byTransfer s t first second) ≡ 0 → ⊥)
@@ -104,7 +104,4 @@ number-listed s r =
 -- EACH REFUSAL EXACTLY: a number comes exactly when its test is the first that fails, and 0 exactly when none fails
 pub decided : (s : Guest) (r : Record) (first second k : ℕ)
     → (numberIn (finished s r first second) ≡ k) ↔ FirstFails k (transferNumbers s r)
-decided s r first second k = (
-  λ e. decided-exactly (transferNumbers s r) tt k .0 (sym (number-decided s r first second) ∙ e),
-  λ f. number-decided s r first second ∙ decided-exactly (transferNumbers s r) tt k .1 f,
-)
+decided s r first second = first-exactly (transferNumbers s r) tt (promised s r first second refl)

@@ -1,4 +1,4 @@
--- The number, mask and count of each answer: only refusal 6 has a mask and a count.
+-- The number of each answer.
 use Prim.Native.Nat.{ℕ}
 use Rattle.coprocessor.specs.declared.answer.Answer.{Answer}
 use Rattle.coprocessor.specs.declared.answer.Answer.the-variants.{Read, Written, WrittenTwo, NoEdition, UnsoundStatus, NoTransfer}
@@ -10,9 +10,3 @@ transferNumber (WrittenTwo first second) = 0
 transferNumber NoEdition = 5
 transferNumber UnsoundStatus = 9
 transferNumber NoTransfer = 18
-
-abbrev pub transferMask : Answer → ℕ
-transferMask a = 0
-
-abbrev pub transferCount : Answer → ℕ
-transferCount a = 0

@@ -60,11 +60,9 @@ pub promised : (q : Queue) (s : Guest) (r : struct.Delivered)
 unfolding guestDelivery
 promised q s r e =
     record {
-      result = e;
+      answer = e;
       number =
           same-number (r .outcome .answer)
           ∙ ap (λ (x : Step Guest). plain.answerNumber (x .answer)) e
           ∙ step-number guestDelivery (listOf q) s;
-      mask = refl;
-      count = refl;
     }

@@ -28,7 +28,7 @@ madeStep s r = delivering s (plainAnswer (r .outcome .answer)) (r .state)
 
 -- what `deliver` promises is what a run asks of a step
 pub step-promised : (q : Queue) (s : Guest) (r : Delivered) → Delivering q s r → Promised guestDelivery q (madeStep s r) (r .outcome .queue)
-step-promised q s r p = p .result
+step-promised q s r p = p .answer
 
 -- OVER RUNS: any list of raises and steps, each given the queue that the last one left, with nothing waiting at the start: what came back
 -- is what the plain queue answers, the state after each step included, and so is the last queue

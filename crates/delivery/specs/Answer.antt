@@ -1,4 +1,4 @@
--- The number, mask and count of each answer, and the answer as the plain queue's.
+-- The number of each answer, and the answer as the plain queue's.
 use Prim.Native.Nat.{ℕ}
 use Rattle.pending.specs.Step.{refused, nothing, delivered}
 use Rattle.pending.specs.Step as plain
@@ -10,12 +10,6 @@ answerNumber (Delivered k) = 0
 answerNumber Nothing = 0
 answerNumber UnsoundStatus = 9
 answerNumber UnalignedVbar = 10
-
-abbrev pub answerMask : Answer → ℕ
-answerMask a = 0
-
-abbrev pub answerCount : Answer → ℕ
-answerCount a = 0
 
 abbrev pub plainAnswer : Answer → plain.Answer
 plainAnswer (Delivered k) = delivered k

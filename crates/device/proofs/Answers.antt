@@ -7,7 +7,8 @@ use Prim.Native.Nat.{ℕ}
 use lib.Dec.{T, eqb}
 use Rattle.bits.specs.Decide.{needs, decide, FirstFails}
 use Rattle.bits.proofs.Arms.{told}
-use Rattle.bits.proofs.Deciding.{decide-relabel, decided-exactly, answer-is}
+use Rattle.bits.proofs.Deciding.{decide-relabel, answer-is}
+use Rattle.promise.proofs.Promises.{first-exactly, promised as answers}
 use Rattle.record.specs.Class.{isClass, headOf}
 use Rattle.record.specs.declared.origin.Origin.{Origin}
 use Rattle.record.specs.declared.kinds.DataAbort.{DataAbort}
@@ -77,8 +78,7 @@ number-decided s r value =
 
 -- what the calls promise of the answer and the state, by their equation alone
 pub promised : (s : Guest) (r : Record) (value : ℕ) {f : Finished} → f ≡ finished s r value → FinishPromise s r value f
-promised s r value e =
-    record { result = e; number = ap numberIn e ∙ number-decided s r value; mask = refl; count = refl }
+promised s r value e = answers numberIn (accessNumbers s r) e (number-decided s r value)
 
 -- A REFUSAL gives back the very state
 refused-description : (s : Guest) (d : Described) (value : ℕ) → (numberIn (byDescription s d value) ≡ 0 → ⊥)
@@ -99,7 +99,4 @@ number-listed s r = answer-is (λ n. T (among accessList n)) (accessNumbers s r)
 
 -- EACH REFUSAL EXACTLY: a number comes exactly when its test is the first that fails, and 0 exactly when none fails
 pub decided : (s : Guest) (r : Record) (value k : ℕ) → (numberIn (finished s r value) ≡ k) ↔ FirstFails k (accessNumbers s r)
-decided s r value k = (
-  λ e. decided-exactly (accessNumbers s r) tt k .0 (sym (number-decided s r value) ∙ e),
-  λ f. number-decided s r value ∙ decided-exactly (accessNumbers s r) tt k .1 f,
-)
+decided s r value = first-exactly (accessNumbers s r) tt (promised s r value refl)

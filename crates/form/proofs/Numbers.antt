@@ -13,7 +13,8 @@ use Rattle.edition.specs.declared.Refusal.{Refusal}
 use Rattle.edition.specs.declared.Refusal.the-variants.{UnknownEdition, UpperHalf, UnknownClass, ShortInstruction, NoEdition, OtherEditions}
 use Rattle.edition.proofs.Masks.{mask-ones}
 use Rattle.form.specs.Answer.{Answer, given, refused, numberIn, maskIn, countIn}
-use Rattle.form.specs.Call.{others, callTests, callOf, sixOnly}
+use Rattle.promise.specs.Promise.{sixOnly}
+use Rattle.form.specs.Call.{others, callTests, callOf}
 use Rattle.form.specs.Form.{Form, readBack}
 use Rattle.form.proofs.Calls.{NotSix, Own, Ending, unknown-edition, own-test, other-editions, passed, ending}
 

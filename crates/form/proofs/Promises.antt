@@ -1,46 +1,26 @@
--- The promises of reading, writing, rewriting and carrying, in every form and in any answers of code; and what a promise says of each
--- number. Assumes nothing.
-use mathlib.Core.Path.{_≡_, refl, _∙_, sym, ap, subst}
+-- The promises of reading, writing, rewriting and carrying, in every form and in any answers of code.
+-- Assumes nothing.
+use mathlib.Core.Path.{_≡_, refl, _∙_, sym, ap}
 use mathlib.Core.Bool.{Bool}
 use mathlib.Core.List.{List, [], _∷_}
 use mathlib.Core.Logic.{_↔_}
 use Prim.Native.Nat.{ℕ}
-use lib.Dec.{T, ltb}
-use Rattle.bits.specs.Decide.{Test, needs, decide, relabel, FirstFails, distinct, FailsWith}
-use Rattle.bits.proofs.Deciding.{OneOf, answer-is, decided-exactly, decided-with-exactly}
+use lib.Dec.{ltb}
+use Rattle.bits.specs.Decide.{Test, needs, decide, relabel}
 use Rattle.edition.specs.Mask.{maskBelow, countBelow}
 use Rattle.edition.specs.Judge.{refusalNumber}
 use Rattle.edition.specs.declared.Refusal.{Refusal}
 use Rattle.edition.specs.declared.Refusal.the-variants.{OtherEditions}
 use Rattle.form.specs.Answer.{Answer, given, refused, numberIn, maskIn, countIn}
-use Rattle.form.specs.Call.{callTests, callOf, sixOnly}
+use Rattle.promise.specs.Promise.{sixOnly, Promise}
+use Rattle.promise.proofs.Promises.{kept}
+use Rattle.form.specs.Call.{callTests, callOf}
 use Rattle.form.specs.Form.{Form, hasWord, readAs, writeAs, again, readBack, carriedFrom, carriedAs}
-use Rattle.form.specs.Promise.{Numbers, numbersOf, Promise}
+use Rattle.form.specs.Promise.{numbersOf}
 use Rattle.form.proofs.Calls.{Own, OthersHave, six-exactly}
 use Rattle.form.proofs.Forms.{Sound, own-reading, own-writing}
 use Rattle.form.proofs.Shows.{Shows, shown-alike}
 use Rattle.form.proofs.Numbers.{call-through, call-number, call-carries, back-number, back-names}
-
--- ---- what a promise says
-
-module _ {X : Type 0} {said : Numbers X} {x : X} {m c : ℕ} where
-  -- what is promised of the right answer is promised of the one that came
-  pub kept : {k : ℕ} {a : X} → a ≡ x → Promise said x k m c x → Promise said x k m c a
-  kept {k} {a} same p = subst (Promise said x k m c) (sym same) p
-
-  -- a number comes exactly when its test is the first that fails, and 0 exactly when none fails
-  pub first-exactly : (tests : List (Test ℕ)) → T (distinct tests) → Promise said x (decide tests 0) m c x
-      → (k : ℕ) → (said .number x ≡ k) ↔ FirstFails k tests
-  first-exactly tests d p k = let law = decided-exactly tests d k in (λ t. law .0 (sym (p .number) ∙ t), λ h. p .number ∙ law .1 h)
-
-  -- the same where two tests may share a number
-  pub fails-exactly : (tests : List (Test ℕ)) → Promise said x (decide tests 0) m c x → (k : ℕ) → (said .number x ≡ k) ↔ FailsWith k tests
-  fails-exactly tests p k = let law = decided-with-exactly tests k in (λ t. law .0 (sym (p .number) ∙ t), λ h. p .number ∙ law .1 h)
-
-  -- no other numbers come than 0 and the tests'
-  pub number-is : (P : ℕ → Type 0) (tests : List (Test ℕ)) → Promise said x (decide tests 0) m c x → OneOf P tests → P 0
-      → P (said .number x)
-  number-is P tests p all zero = subst P (sym (p .number)) (answer-is P tests 0 all zero)
 
 -- ---- promises of a call's own answers
 

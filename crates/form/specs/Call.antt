@@ -1,7 +1,7 @@
 -- A call that goes by the edition, over n editions (01, 'Numbers a call may answer'): 1; then the tests that are the call's own; then 5
 -- where no edition has it; then 6, with the editions that have it and their number, where this edition doesn't.
 use Prim.Native.Nat.{ℕ}
-use mathlib.Core.Bool.{Bool, cond, not}
+use mathlib.Core.Bool.{Bool, not}
 use mathlib.Core.List.{List, [], _∷_, _++_}
 use lib.Count.{ones}
 use lib.Dec.{eqb, ltb}
@@ -27,7 +27,3 @@ callTests n test own e = needs (ltb e n) UnknownEdition ∷ (own ++ judgement n 
 
 unfoldable pub callOf : {A : Type 0} → ℕ → (ℕ → Bool) → List (Test Refusal) → ℕ → A → Answer A
 callOf n test own e a = decide (relabel refused (callTests n test own e)) (given a)
-
--- what goes with refusal 6 alone
-abbrev pub sixOnly : ℕ → ℕ → ℕ
-sixOnly number value = cond (eqb number 6) value 0

@@ -6,7 +6,9 @@ use Prim.Native.Nat.{ℕ}
 use lib.Dec.{T, eqb}
 use Rattle.bits.specs.Among.{among}
 use Rattle.bits.specs.Decide.{decide, FirstFails}
-use Rattle.bits.proofs.Deciding.{decide-relabel, all-pass, decided-exactly, answer-is}
+use Rattle.bits.proofs.Deciding.{all-pass, answer-is}
+use Rattle.promise.specs.Promise.{Answers}
+use Rattle.promise.proofs.Promises.{by-tests, first-exactly, promised as answers}
 use Rattle.status.specs.Sound.{sound}
 use Rattle.exception.specs.declared.state.Guest.{Guest}
 use Rattle.exception.specs.Vector.{aligned}
@@ -18,19 +20,18 @@ use Rattle.guest.specs.declared.injector.Injected.{Injected}
 use Rattle.guest.specs.Answer.{answerNumber, injectionList}
 use Rattle.guest.specs.Tests.{writable, domainFits, addressFits, injectionTests, injectionNumbers}
 use Rattle.guest.specs.Inject.{guestAfter, injectionAnswer, resulting, injected}
-use Rattle.guest.specs.Promise.{Promise}
+use Rattle.guest.specs.Promise.{Injecting}
 
 -- ---- the first test that fails gives the number
 
-pub number-decided : (s : Guest) (i : Injection) → answerNumber (injectionAnswer s i) ≡ decide (injectionNumbers s i) 0
+pub answered : (s : Guest) (i : Injection) → Answers answerNumber (injectionAnswer s i) (injectionNumbers s i) (injectionAnswer s i)
 unfolding injectionAnswer
-number-decided s i = decide-relabel answerNumber (injectionTests s i) Accepted
+answered s i = by-tests answerNumber (injectionTests s i) Accepted refl refl refl
 
 -- what the calls promise of the answer and the state, by their equation alone
-pub promised : (s : Guest) (i : Injection) {r : Injected} → r ≡ injected s i → Promise s i r
+pub promised : (s : Guest) (i : Injection) {r : Injected} → r ≡ injected s i → Injecting s i r
 unfolding injected
-promised s i e =
-    record { result = e; number = ap (λ (r : Injected). answerNumber (r .answer)) e ∙ number-decided s i; mask = refl; count = refl }
+promised s i e = answers (λ r. answerNumber (r .answer)) (injectionNumbers s i) e (answered s i .number)
 
 -- an injection answers 0, 9 to 12 or 20
 pub number-listed : (s : Guest) (i : Injection) → T (among injectionList (decide (injectionNumbers s i) 0))
@@ -38,10 +39,7 @@ number-listed s i = answer-is (λ n. T (among injectionList n)) (injectionNumber
 
 -- EACH REFUSAL EXACTLY: an injection answers a number exactly when its test is the first that fails, and 0 exactly when none fails
 pub decided : (s : Guest) (i : Injection) (k : ℕ) → (answerNumber (injectionAnswer s i) ≡ k) ↔ FirstFails k (injectionNumbers s i)
-decided s i k = (
-  λ e. decided-exactly (injectionNumbers s i) tt k .0 (sym (number-decided s i) ∙ e),
-  λ f. number-decided s i ∙ decided-exactly (injectionNumbers s i) tt k .1 f,
-)
+decided s i = first-exactly (injectionNumbers s i) tt (answered s i)
 
 -- ---- an injection is taken exactly when it passes the five tests
 

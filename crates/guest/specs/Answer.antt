@@ -1,5 +1,4 @@
--- The number, mask and count of each answer (01, 'Numbers a call may answer'; 02, C-21: 20): only refusal 6 has a mask and a count, and no
--- injection gives it.
+-- The number of each answer (01, 'Numbers a call may answer'; 02, C-21: 20).
 use Prim.Native.Nat.{ℕ}
 use mathlib.Core.List.{List, [], _∷_}
 use Rattle.guest.specs.declared.answer.Answer.{Answer}
@@ -13,12 +12,6 @@ answerNumber UnalignedVbar = 10
 answerNumber UnwritableFault = 11
 answerNumber WideAddress = 12
 answerNumber WideDomain = 20
-
-abbrev pub answerMask : Answer → ℕ
-answerMask a = 0
-
-abbrev pub answerCount : Answer → ℕ
-answerCount a = 0
 
 -- what an injection may answer
 abbrev pub injectionList : List ℕ

@@ -4,7 +4,7 @@ use Prim.Native.Nat.{ℕ, _^_}
 use mathlib.Core.Bool.{Bool, true}
 use mathlib.Core.List.{List, [], _∷_}
 use lib.Dec.{leb, ltb}
-use Rattle.bits.specs.Decide.{Test, needs}
+use Rattle.bits.specs.Decide.{Test, needs, relabel}
 use Rattle.status.specs.Sound.{sound}
 use Rattle.fault.specs.Fault.{ifsrWord, dfsrWord, isCode}
 use Rattle.exception.specs.declared.state.Guest.{Guest}
@@ -14,6 +14,7 @@ use Rattle.guest.specs.declared.answer.Answer.the-variants.{UnsoundStatu
 use Rattle.guest.specs.declared.injection.Injection.{Injection}
 use Rattle.guest.specs.declared.injection.Injection.the-variants.{UndefinedAt, UndefinedAfter, SupervisorCall, PrefetchAbort}
 use Rattle.guest.specs.declared.injection.Injection.the-variants.{DataAbort}
+use Rattle.guest.specs.Answer.{answerNumber}
 
 -- 11: an abort's fault can be written in its register, in the format that TTBCR chooses
 abbrev pub writable : Injection → ℕ → Bool
@@ -39,17 +40,7 @@ addressFits SupervisorCall = true
 addressFits (PrefetchAbort f) = ltb (f .address) (2 ^ 32)
 addressFits (DataAbort a) = ltb (a .address) (2 ^ 32)
 
--- the tests in their order, each with its number; 0 comes where none fails
-abbrev pub injectionNumbers : Guest → Injection → List (Test ℕ)
-injectionNumbers s i =
-    needs (sound (s .marks) (s .status)) 9
-    ∷ needs (aligned (s .vbar)) 10
-    ∷ needs (writable i (s .ttbcr)) 11
-    ∷ needs (domainFits i) 20
-    ∷ needs (addressFits i) 12
-    ∷ []
-
--- the same tests, each with its answer
+-- the tests in their order, each with its answer
 abbrev pub injectionTests : Guest → Injection → List (Test Answer)
 injectionTests s i =
     needs (sound (s .marks) (s .status)) UnsoundStatus
@@ -58,3 +49,7 @@ injectionTests s i =
     ∷ needs (domainFits i) WideDomain
     ∷ needs (addressFits i) WideAddress
     ∷ []
+
+-- and with its number; 0 comes where none fails
+abbrev pub injectionNumbers : Guest → Injection → List (Test ℕ)
+injectionNumbers s i = relabel answerNumber (injectionTests s i)

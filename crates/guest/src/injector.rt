@@ -1,5 +1,5 @@
 // An injection into a guest's state, by value.
-ghost use Rattle.guest.specs.Promise.{Promise};
+ghost use Rattle.guest.specs.Promise.{Injecting};
 use crate::answer::Answer;
 use crate::injection::Injection;
 use crate::injection::injection_row;
@@ -17,7 +17,7 @@ pub struct Injected {
 
 // The answer, with the state after it: a refusal's is the state that came.
 pub fn inject(state: Guest, what: Injection) -> Injected
-    ensures { λ r. ⌜ Promise state what r ⌝ }
+    ensures { λ r. ⌜ Injecting state what r ⌝ }
 {
     let marks = state.marks;
     if !sound(marks, state.status) {

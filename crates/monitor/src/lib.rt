@@ -1,5 +1,5 @@
 // The one guest state that the monitor keeps, lent to the calls that change it.
-ghost use Rattle.guest.specs.Promise.{Promise};
+ghost use Rattle.guest.specs.Promise.{Injecting};
 ghost use Rattle.device.specs.Promise.{FinishPromise};
 ghost use Rattle.delivery.specs.Promise.{Delivering};
 ghost use Rattle.resume.specs.Promise.{Returning};
@@ -21,7 +21,7 @@ pub use onward::step_over_in_place;
 
 // Injects into the state where it lies: answer and state are those of the call by value, on a refusal too.
 pub fn inject_in_place(state: &mut Guest, what: Injection) -> guest::Answer
-    ensures { λ r. ⌜ Promise (now (state .entry)) what (record { answer = r; state = now (state .exit) }) ⌝ }
+    ensures { λ r. ⌜ Injecting (now (state .entry)) what (record { answer = r; state = now (state .exit) }) ⌝ }
 {
     let after = inject(*state, what);
     *state = after.state;

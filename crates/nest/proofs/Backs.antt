@@ -15,9 +15,11 @@ use Rattle.guest.specs.declared.injector.Injected.{Injected}
 use Rattle.guest.specs.Answer as injection-answer
 use Rattle.guest.specs.Injection.{injectionRow}
 use Rattle.guest.specs.Injection as injection
+use Rattle.promise.proofs.Promises.{promised as answers}
 use Rattle.guest.specs.Inject.{injectionAnswer, injected}
-use Rattle.guest.specs.Promise.{Promise}
-use Rattle.guest.proofs.Answers.{number-decided}
+use Rattle.guest.specs.Tests.{injectionNumbers}
+use Rattle.guest.specs.Promise.{Injecting}
+use Rattle.guest.proofs.Answers.{answered as injection-answered}
 use Rattle.pending.specs.declared.Kind.{Kind}
 use Rattle.pending.specs.declared.Queue.{Queue}
 use Rattle.pending.specs.Reading.{listOf}
@@ -57,22 +59,22 @@ first-state-again s e typed t =
 -- ---- of the calls, as they promise
 
 -- `inject`, and then `resume` on what it left, with what `guest::correction` tells
-pub injected-and-returned : (s : Guest) (i : Injection) (r : Injected) (b : Resumed) → Typed s → Promise s i r → r .answer ≡ Accepted
+pub injected-and-returned : (s : Guest) (i : Injection) (r : Injected) (b : Resumed) → Typed s → Injecting s i r → r .answer ≡ Accepted
     → Returning (r .state) (injection.correctionOf s i) b → b ≡ record { answer = Returned; state = undoneBy s (injecting i) }
 unfolding injected
 injected-and-returned s i r b typed p t q =
-    q .result
-    ∙ ap (λ (x : Injected). returned (x .state) (injection.correctionOf s i)) (p .result)
-    ∙ returned-right-after s (injecting i) typed (sym (ap (λ (x : Injected). x .answer) (p .result)) ∙ t)
+    q .answer
+    ∙ ap (λ (x : Injected). returned (x .state) (injection.correctionOf s i)) (p .answer)
+    ∙ returned-right-after s (injecting i) typed (sym (ap (λ (x : Injected). x .answer) (p .answer)) ∙ t)
 
 -- `deliver`, and then `resume` on what it left, with what `delivery::correction` tells
 pub delivered-and-returned : (q : Queue) (s : Guest) (k : Kind) (r : struct.Delivered) (b : Resumed) → Typed s → Delivering q s r
     → r .outcome .answer ≡ answer.the-variants.Delivered k → Returning (r .state) (delivery.correctionOf s k) b
     → b ≡ record { answer = Returned; state = undoneBy s (delivering (listOf q) k) }
 delivered-and-returned q s k r b typed p t h =
-    h .result
-    ∙ ap (λ (x : Step Guest). returned (x .state) (delivery.correctionOf s k)) (p .result)
-    ∙ returned-right-after s (delivering (listOf q) k) typed (sym (ap (λ (x : Step Guest). x .answer) (p .result)) ∙ ap plainAnswer t)
+    h .answer
+    ∙ ap (λ (x : Step Guest). returned (x .state) (delivery.correctionOf s k)) (p .answer)
+    ∙ returned-right-after s (delivering (listOf q) k) typed (sym (ap (λ (x : Step Guest). x .answer) (p .answer)) ∙ ap plainAnswer t)
 
 -- ---- of `inject_and_resume`
 
@@ -88,17 +90,13 @@ back-number s i WideDomain = refl
 promised-back : (s : Guest) (i : Injection) {b : Back} → b ≡ backOf s i → GoingBack s i b
 unfolding backOf
 promised-back s i e =
-    record {
-      result = e;
-      number = ap (λ (b : Back). answerNumber (b .answer)) e ∙ back-number s i (injectionAnswer s i) ∙ number-decided s i;
-      mask = refl;
-      count = refl;
-    }
+    answers (λ (b : Back). answerNumber (b .answer)) (injectionNumbers s i) e
+    (back-number s i (injectionAnswer s i) ∙ injection-answered s i .number)
 
-module _ (s : Guest) (i : Injection) (r : Injected) (p : Promise s i r) where
+module _ (s : Guest) (i : Injection) (r : Injected) (p : Injecting s i r) where
   answered : r .answer ≡ injectionAnswer s i
   unfolding injected
-  answered = ap (λ (x : Injected). x .answer) (p .result)
+  answered = ap (λ (x : Injected). x .answer) (p .answer)
 
   -- an injection that is taken, and its return
   pub going-back : (b : Resumed) → Typed s → r .answer ≡ Accepted → Returning (r .state) (injection.correctionOf s i) b
@@ -124,7 +122,7 @@ module _ (s : Guest) (i : Injection) (r : Injected) (p : Promise s i r) where
 
 module _ (s : Guest) (i : Injection) (b : Back) (p : GoingBack s i b) where
   number-of : injection-answer.answerNumber (injectionAnswer s i) ≡ answerNumber (b .answer)
-  number-of = number-decided s i ∙ sym (p .number)
+  number-of = injection-answered s i .number ∙ sym (p .number)
 
   -- the call's answer and state, by a test that is known
   by-test : (t : Bool) → eqb (injection-answer.answerNumber (injectionAnswer s i)) 0 ≡ t
@@ -133,7 +131,7 @@ module _ (s : Guest) (i : Injection) (b : Back) (p : GoingBack s i b) where
       (record { answer = Answer.Uninjected (injectionAnswer s i); state = s })
   unfolding backOf
   by-test t is =
-      p .result
+      p .answer
       ∙ ap
       (λ (x : Bool). cond x (record { answer = Answer.Resumed Returned; state = undoneBy s (injecting i) })
       (record { answer = Answer.Uninjected (injectionAnswer s i); state = s }))

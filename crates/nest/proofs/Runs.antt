@@ -25,12 +25,12 @@ use Rattle.nest.proofs.Nests.{nest-back}
 entered-taken : (s : Guest) (e : Entry) (left : Guest) → Entered s e left → TakenIn s e × (after s e ≡ left)
 unfolding injected
 entered-taken s (injecting i) left x =
-    let same = x .1 .result in (
+    let same = x .1 .answer in (
       sym (ap (λ (r : Injected). r .answer) same) ∙ x .2,
       sym (ap (λ (r : Injected). r .state) same) ∙ x .3,
     )
 entered-taken s (delivering l k) left x =
-    let same = x .3 .result ∙ ap (λ (w : List Kind). stepOf guestDelivery w s) (x .2) in (
+    let same = x .3 .answer ∙ ap (λ (w : List Kind). stepOf guestDelivery w s) (x .2) in (
       sym (ap (λ (r : Step Guest). r .answer) same) ∙ ap plainAnswer (x .4),
       sym (ap (λ (r : Step Guest). r .state) same) ∙ x .5,
     )
@@ -44,7 +44,7 @@ as-nested (m ∷ ms) s last run =
       (first .0, subst (λ (g : Guest). AllTaken g (entriesOf ms)) (sym (first .1)) (rest .0)),
       ap (λ (g : Guest). returned (nested g (entriesOf ms)) (correctionOf s (m .entry)) .state) (first .1)
           ∙ ap (λ (g : Guest). returned g (correctionOf s (m .entry)) .state) (rest .1)
-          ∙ sym (ap (λ (r : Resumed). r .state) (run .1 .2 .result)) ∙ run .2,
+          ∙ sym (ap (λ (r : Resumed). r .state) (run .1 .2 .answer)) ∙ run .2,
     )
 
 all-returned : (ms : List Made) (s last : Guest) → Run s ms last → AllReturn s (entriesOf ms) → AllReturned ms
@@ -53,7 +53,7 @@ all-returned (m ∷ ms) s last run a =
     let first = entered-taken s (m .entry) (m .left) (run .0) in
     let rest = as-nested ms (m .left) (run .1 .0) (run .1 .1) in (
       all-returned ms (m .left) (run .1 .0) (run .1 .1) (subst (λ (g : Guest). AllReturn g (entriesOf ms)) (first .1) (a .0)),
-      ap (λ (r : Resumed). r .answer) (run .1 .2 .result)
+      ap (λ (r : Resumed). r .answer) (run .1 .2 .answer)
           ∙ sym (ap (λ (g : Guest). returned (nested g (entriesOf ms)) (correctionOf s (m .entry)) .answer) (first .1)
           ∙ ap (λ (g : Guest). returned g (correctionOf s (m .entry)) .answer) (rest .1)) ∙ a .1,
     )

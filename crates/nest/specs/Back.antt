@@ -1,9 +1,8 @@
 -- C-22 beside running code: an injection, and the return right after it with that injection's correction.
-use mathlib.Core.Path.{_≡_}
 use mathlib.Core.Bool.{cond}
 use Prim.Native.Nat.{ℕ}
 use lib.Dec.{eqb}
-use Rattle.bits.specs.Decide.{decide}
+use Rattle.promise.specs.Promise.{Answers}
 use Rattle.exception.specs.declared.state.Guest.{Guest}
 use Rattle.guest.specs.declared.answer.Answer as refusal
 use Rattle.guest.specs.declared.injection.Injection.{Injection}
@@ -34,16 +33,6 @@ abbrev pub answerNumber : Answer → ℕ
 answerNumber (Answer.Uninjected a) = injection.answerNumber a
 answerNumber (Answer.Resumed a) = return.answerNumber a
 
-abbrev pub answerMask : Answer → ℕ
-answerMask a = 0
-
-abbrev pub answerCount : Answer → ℕ
-answerCount a = 0
-
--- THE PROMISE: the answer and the whole state after it, and the answer's number, mask and count; the number is the injection's, since the
--- return answers 0
-pub record GoingBack (s : Guest) (i : Injection) (b : Back) : Type 0 where
-  pub result : b ≡ backOf s i
-  pub number : answerNumber (b .answer) ≡ decide (injectionNumbers s i) 0
-  pub mask : answerMask (b .answer) ≡ 0
-  pub count : answerCount (b .answer) ≡ 0
+-- THE PROMISE: the answer and the whole state after it, and the answer's number, which is the injection's, since the return answers 0
+abbrev pub GoingBack : Guest → Injection → Back → Type 0
+GoingBack s i = Answers (λ b. answerNumber (b .answer)) (backOf s i) (injectionNumbers s i)

@@ -4,7 +4,7 @@ use mathlib.Core.List.{List, [], _∷_}
 use Rattle.exception.specs.declared.state.Guest.{Guest}
 use Rattle.guest.specs.declared.answer.Answer.the-variants.{Accepted}
 use Rattle.guest.specs.declared.injector.Injected.{Injected}
-use Rattle.guest.specs.Promise.{Promise}
+use Rattle.guest.specs.Promise.{Injecting}
 use Rattle.pending.specs.declared.Queue.{Queue}
 use Rattle.pending.specs.Reading.{listOf}
 use Rattle.delivery.specs.declared.Answer as answer
@@ -17,7 +17,7 @@ use Rattle.nest.specs.Entry.{Entry, injecting, delivering, correctionOf}
 
 -- a call was made on a state as promised, took the exception, and left another state: `inject` answered 0, or `deliver` named the kind
 abbrev pub Entered : Guest → Entry → Guest → Type 0
-Entered s (injecting i) left = (r : Injected) × Promise s i r × (r .answer ≡ Accepted) × (r .state ≡ left)
+Entered s (injecting i) left = (r : Injected) × Injecting s i r × (r .answer ≡ Accepted) × (r .state ≡ left)
 Entered s (delivering l k) left =
     (q : Queue) × (r : struct.Delivered) × (listOf q ≡ l) × Delivering q s r × (r .outcome .answer ≡ answer.the-variants.Delivered k)
     × (r .state ≡ left)

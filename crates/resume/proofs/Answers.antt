@@ -8,7 +8,9 @@ use lib.Dec.{T, eqb}
 use Rattle.bits.specs.Among.{among}
 use Rattle.bits.specs.Decide.{decide, FailsWith}
 use Rattle.bits.proofs.Arms.{told}
-use Rattle.bits.proofs.Deciding.{decide-relabel, all-pass, decided-with-exactly, answer-is}
+use Rattle.bits.proofs.Deciding.{all-pass, answer-is}
+use Rattle.promise.specs.Promise.{Answers}
+use Rattle.promise.proofs.Promises.{by-tests, fails-exactly, promised as answers}
 use Rattle.signed.specs.declared.Signed.{Signed}
 use Rattle.status.specs.Sound.{sound}
 use Rattle.exception.specs.declared.state.Guest.{Guest}
@@ -21,22 +23,18 @@ use Rattle.resume.specs.Return.{returned}
 use Rattle.resume.specs.Same.{OnlyMoved}
 use Rattle.resume.specs.Promise.{Returning}
 
-number-decided : (s : Guest) → answerNumber (returnAnswer s) ≡ decide (returnNumbers s) 0
+answered : (s : Guest) → Answers answerNumber (returnAnswer s) (returnNumbers s) (returnAnswer s)
 unfolding returnAnswer
-number-decided s = decide-relabel answerNumber (returnTests s) Returned
+answered s = by-tests answerNumber (returnTests s) Returned refl refl refl
 
 -- what the calls promise, by their equation alone
 pub promised : (s : Guest) (c : Signed) {r : Resumed} → r ≡ returned s c → Returning s c r
 unfolding returned
-promised s c e =
-    record { result = e; number = ap (λ (r : Resumed). answerNumber (r .answer)) e ∙ number-decided s; mask = refl; count = refl }
+promised s c e = answers (λ r. answerNumber (r .answer)) (returnNumbers s) e (answered s .number)
 
 -- EACH NUMBER EXACTLY: 9 comes exactly when one of the three tests fails, and 0 exactly when none does
 pub decided : (s : Guest) (k : ℕ) → (answerNumber (returnAnswer s) ≡ k) ↔ FailsWith k (returnNumbers s)
-decided s k = (
-  λ e. decided-with-exactly (returnNumbers s) k .0 (sym (number-decided s) ∙ e),
-  λ f. number-decided s ∙ decided-with-exactly (returnNumbers s) k .1 f,
-)
+decided s = fails-exactly (returnNumbers s) (answered s)
 
 -- a return answers 0 or 9
 pub number-listed : (s : Guest) → T (among (0 ∷ 9 ∷ []) (decide (returnNumbers s) 0))

@@ -1,4 +1,4 @@
--- The number, mask and count of each answer (02, C-22): 9 is the only refusal.
+-- The number of each answer (02, C-22): 9 is the only refusal.
 use Prim.Native.Nat.{ℕ}
 use Rattle.resume.specs.declared.Answer.{Answer}
 use Rattle.resume.specs.declared.Answer.the-variants.{Returned, UnsoundStatus, NoSavedStatus, UnsoundSaved}
@@ -8,9 +8,3 @@ answerNumber Returned = 0
 answerNumber UnsoundStatus = 9
 answerNumber NoSavedStatus = 9
 answerNumber UnsoundSaved = 9
-
-abbrev pub answerMask : Answer → ℕ
-answerMask a = 0
-
-abbrev pub answerCount : Answer → ℕ
-answerCount a = 0

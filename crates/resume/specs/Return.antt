@@ -4,7 +4,7 @@ use Prim.Native.Nat.{ℕ}
 use mathlib.Core.Bool.{Bool, not, _&&_, cond}
 use mathlib.Core.List.{List, [], _∷_}
 use lib.Dec.{eqb}
-use Rattle.bits.specs.Decide.{Test, needs, decide}
+use Rattle.bits.specs.Decide.{Test, needs, decide, relabel}
 use Rattle.bits.specs.Field.{fieldOf}
 use Rattle.signed.specs.declared.Signed.{Signed}
 use Rattle.signed.specs.Signed.{signed, differenceOf}
@@ -50,11 +50,7 @@ returnTests s =
 
 -- the same tests, each with its number
 abbrev pub returnNumbers : Guest → List (Test ℕ)
-returnNumbers s =
-    needs (sound (s .marks) (s .status)) 9
-    ∷ needs (banked (modeOf s)) 9
-    ∷ needs (sound (s .marks) (savedOf (modeOf s) (s .saved))) 9
-    ∷ []
+returnNumbers s = relabel answerNumber (returnTests s)
 
 -- the first test that fails gives the answer
 unfoldable pub returnAnswer : Guest → Answer

@@ -2,7 +2,8 @@
 -- number of ones.
 use Prim.Native.Nat.{ℕ}
 use Rattle.form.specs.Answer.{Answer, given, refused}
-use Rattle.form.specs.Promise.{Numbers, numbersOf}
+use Rattle.promise.specs.Promise.{Numbers}
+use Rattle.form.specs.Promise.{numbersOf}
 use Rattle.short_record.specs.declared.kinds.Record.{Record}
 use Rattle.short.specs.declared.answer.Read.{Read}
 use Rattle.short.specs.declared.answer.Written.{Written}

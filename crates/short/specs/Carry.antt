@@ -5,7 +5,7 @@ use Rattle.bits.specs.Decide.{needs, decide}
 use Rattle.edition.specs.Mask.{countBelow}
 use Rattle.short_rule.specs.Edition.{editions, isEdition, maskOf}
 use Rattle.form.specs.Form as Form
-use Rattle.form.specs.Promise.{Promise}
+use Rattle.promise.specs.Promise.{Promise}
 use Rattle.short_record.specs.declared.kinds.Hsr.{Hsr}
 use Rattle.short_record.specs.declared.kinds.Record.{Record}
 use Rattle.short_rule.specs.Has.{has, editionsOf}

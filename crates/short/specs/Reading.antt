@@ -7,7 +7,7 @@ use Rattle.edition.specs.Mask.{countBelow}
 use Rattle.short_rule.specs.Edition.{editions, isEdition, maskOf}
 use Rattle.form.specs.Call.{someHas}
 use Rattle.form.specs.Form as Form
-use Rattle.form.specs.Promise.{Promise}
+use Rattle.promise.specs.Promise.{Promise}
 use Rattle.short_record.specs.declared.kinds.Hsr.{Hsr}
 use Rattle.short.specs.Tests.{classKnown, wordIl}
 use Rattle.short.specs.Form.{shortForm}

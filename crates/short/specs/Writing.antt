@@ -6,7 +6,7 @@ use Rattle.edition.specs.Mask.{countBelow}
 use Rattle.short_rule.specs.Edition.{editions, isEdition}
 use Rattle.form.specs.Call.{someHas}
 use Rattle.form.specs.Form as Form
-use Rattle.form.specs.Promise.{Promise}
+use Rattle.promise.specs.Promise.{Promise}
 use Rattle.short_record.specs.Class.{headOf}
 use Rattle.short_record.specs.declared.kinds.Record.{Record}
 use Rattle.short_rule.specs.Has.{has, recordIl, editionsOf}

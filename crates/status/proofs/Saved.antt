@@ -1,33 +1,26 @@
 -- Laws of the hypervisor's saved word as a status word.
-use mathlib.Core.Path.{_≡_, refl, ap, _∙_}
-use mathlib.Core.Bool.{Bool, true, false, cond}
+use mathlib.Core.Path.{_≡_, refl}
+use mathlib.Core.List.{[], _∷_}
 use mathlib.Core.Logic.{_↔_}
 use Prim.Native.Nat.{ℕ, _+_, _*_, _^_, _<_}
 use native.Mathlib.Omega.{arith}
-use Rattle.bits.specs.Decide.{decide, FirstFails}
+use Rattle.bits.specs.Decide.{needs, FirstFails}
 use Rattle.bits.specs.Field.{fieldOf}
-use Rattle.bits.proofs.Deciding.{decided-exactly}
+use Rattle.promise.proofs.Promises.{first-exactly, by-tests}
 use Rattle.status.specs.declared.FromSpsr.{FromSpsr}
 use Rattle.status.specs.declared.FromSpsr.the-variants.{Status, Unsound}
 use Rattle.status.specs.declared.Marks.{Marks}
 use Rattle.status.specs.Sound.{sound}
 use Rattle.status.specs.Spsr.{spsrStatus, fromSpsr, spsrNumbers, spsrNumber, SpsrPromise}
 
-tested : (w : ℕ) (b : Bool) → spsrNumber (cond b (Status w) Unsound) ≡ cond b 0 9
-tested w true = refl
-tested w false = refl
-
-pub spsr-number : (marks : Marks) (w : ℕ) → spsrNumber (fromSpsr marks w) ≡ decide (spsrNumbers marks w) 0
-unfolding fromSpsr
-spsr-number marks w = tested (spsrStatus w) (sound marks (spsrStatus w))
-
 -- what the call promises, by its equation alone
 pub promised : (marks : Marks) (w : ℕ) {r : FromSpsr} → r ≡ fromSpsr marks w → SpsrPromise marks w r
-promised marks w e = record { result = e; number = ap spsrNumber e ∙ spsr-number marks w; mask = refl; count = refl }
+unfolding fromSpsr
+promised marks w = by-tests spsrNumber (needs (sound marks (spsrStatus w)) Unsound ∷ []) (Status (spsrStatus w)) refl refl
 
 -- 9 exactly when the word that is made isn't sound
-pub spsr-decided : (marks : Marks) (w k : ℕ) → (decide (spsrNumbers marks w) 0 ≡ k) ↔ FirstFails k (spsrNumbers marks w)
-spsr-decided marks w = decided-exactly (spsrNumbers marks w) tt
+pub spsr-decided : (marks : Marks) (w k : ℕ) → (spsrNumber (fromSpsr marks w) ≡ k) ↔ FirstFails k (spsrNumbers marks w)
+spsr-decided marks w = first-exactly (spsrNumbers marks w) tt (promised marks w refl)
 
 -- the word that is made, field by field
 pub record Moved (old new : ℕ) : Type 0 where

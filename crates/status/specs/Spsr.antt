@@ -1,10 +1,10 @@
 -- The hypervisor's 32-bit saved word as a status word (02, C-15), and what its call promises.
-use mathlib.Core.Path.{_≡_}
 use mathlib.Core.Bool.{cond}
 use mathlib.Core.List.{List, [], _∷_}
 use Prim.Native.Nat.{ℕ, _+_, _*_, _^_}
-use Rattle.bits.specs.Decide.{Test, needs, decide}
+use Rattle.bits.specs.Decide.{Test, needs}
 use Rattle.bits.specs.Field.{fieldOf}
+use Rattle.promise.specs.Promise.{Answers}
 use Rattle.status.specs.declared.FromSpsr.{FromSpsr}
 use Rattle.status.specs.declared.FromSpsr.the-variants.{Status, Unsound}
 use Rattle.status.specs.declared.Marks.{Marks}
@@ -26,19 +26,10 @@ fromSpsr marks w = cond (sound marks (spsrStatus w)) (Status (spsrStatus w)) Uns
 abbrev pub spsrNumbers : Marks → ℕ → List (Test ℕ)
 spsrNumbers marks w = needs (sound marks (spsrStatus w)) 9 ∷ []
 
--- the number, mask and count of each answer
+-- the number of each answer
 abbrev pub spsrNumber : FromSpsr → ℕ
 spsrNumber (Status w) = 0
 spsrNumber Unsound = 9
 
-abbrev pub spsrMask : FromSpsr → ℕ
-spsrMask r = 0
-
-abbrev pub spsrCount : FromSpsr → ℕ
-spsrCount r = 0
-
-pub record SpsrPromise (marks : Marks) (w : ℕ) (r : FromSpsr) : Type 0 where
-  pub result : r ≡ fromSpsr marks w
-  pub number : spsrNumber r ≡ decide (spsrNumbers marks w) 0
-  pub mask : spsrMask r ≡ 0
-  pub count : spsrCount r ≡ 0
+abbrev pub SpsrPromise : Marks → ℕ → FromSpsr → Type 0
+SpsrPromise marks w = Answers spsrNumber (fromSpsr marks w) (spsrNumbers marks w)

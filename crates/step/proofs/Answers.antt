@@ -1,13 +1,14 @@
 -- Laws of the answer to a step, and of the state beside it, for every record and state.
-use mathlib.Core.Path.{_≡_, refl, sym, ap, _∙_}
+use mathlib.Core.Path.{_≡_, refl}
 use mathlib.Core.Bool.{true, false}
 use mathlib.Core.List.{[], _∷_}
 use mathlib.Core.Logic.{_↔_}
 use Prim.Native.Nat.{ℕ}
 use lib.Dec.{T}
 use Rattle.bits.specs.Among.{among}
-use Rattle.bits.specs.Decide.{needs, decide, FirstFails}
-use Rattle.bits.proofs.Deciding.{decide-relabel, decided-exactly, answer-is}
+use Rattle.bits.specs.Decide.{decide, FirstFails}
+use Rattle.bits.proofs.Deciding.{answer-is}
+use Rattle.promise.proofs.Promises.{by-tests, first-exactly}
 use Rattle.record.specs.Class.{headOf}
 use Rattle.record.specs.declared.kinds.Record.{Record}
 use Rattle.status.specs.Sound.{sound}
@@ -15,7 +16,7 @@ use Rattle.exception.specs.declared.state.Guest.{Guest}
 use Rattle.step.specs.declared.over.Answer.the-variants.{Stepped, NoEdition, UnsoundStatus, NotStepped}
 use Rattle.step.specs.declared.over.SteppedOver.{SteppedOver}
 use Rattle.step.specs.Step.{stepped}
-use Rattle.step.specs.Over.{stepNumber, had, isSteppedOver, stepNumbers, refusing, stepTests, steppedOver}
+use Rattle.step.specs.Over.{numberStepped, had, isSteppedOver, stepNumbers, refusing, stepTests, steppedOver}
 use Rattle.step.specs.Promise.{StepPromise}
 
 abbrev pub took : Guest → SteppedOver
@@ -44,22 +45,16 @@ module _ (s : Guest) (r : Record) where
 
 -- ---- the first test that fails gives the number
 
-abbrev pub numberIn : SteppedOver → ℕ
-numberIn d = stepNumber (d .answer)
-
-pub number-decided : (s : Guest) (r : Record) → numberIn (steppedOver s r) ≡ decide (stepNumbers s r) 0
-unfolding steppedOver
-number-decided s r = decide-relabel numberIn (stepTests s r) (took (stepped s (s .regs) (headOf r .il)))
-
 -- what the calls promise of the answer and the state, by their equation alone
 pub promised : (s : Guest) (r : Record) {d : SteppedOver} → d ≡ steppedOver s r → StepPromise s r d
-promised s r e = record { result = e; number = ap numberIn e ∙ number-decided s r; mask = refl; count = refl }
+unfolding steppedOver
+promised s r = by-tests numberStepped (stepTests s r) (took (stepped s (s .regs) (headOf r .il))) refl refl
 
 -- A REFUSAL gives back the very state
-pub refused-untouched : (s : Guest) (r : Record) → (numberIn (steppedOver s r) ≡ 0 → ⊥) → steppedOver s r .state ≡ s
+pub refused-untouched : (s : Guest) (r : Record) → (numberStepped (steppedOver s r) ≡ 0 → ⊥) → steppedOver s r .state ≡ s
 unfolding steppedOver
 refused-untouched s r =
-    answer-is (λ (d : SteppedOver). (numberIn d ≡ 0 → ⊥) → d .state ≡ s) (stepTests s r) (took (stepped s (s .regs) (headOf r .il)))
+    answer-is (λ (d : SteppedOver). (numberStepped d ≡ 0 → ⊥) → d .state ≡ s) (stepTests s r) (took (stepped s (s .regs) (headOf r .il)))
     (λ n. refl, (λ n. refl, (λ n. refl, tt))) (λ n. absurd (n refl))
 
 -- stepping over an instruction answers 0, 5, 9 or 18
@@ -68,8 +63,5 @@ number-listed s r =
     answer-is (λ n. T (among (0 ∷ 5 ∷ 9 ∷ 18 ∷ []) n)) (stepNumbers s r) 0 (tt, (tt, (tt, tt))) tt
 
 -- EACH REFUSAL EXACTLY: a number comes exactly when its test is the first that fails, and 0 exactly when none fails
-pub decided : (s : Guest) (r : Record) (k : ℕ) → (numberIn (steppedOver s r) ≡ k) ↔ FirstFails k (stepNumbers s r)
-decided s r k = (
-  λ e. decided-exactly (stepNumbers s r) tt k .0 (sym (number-decided s r) ∙ e),
-  λ f. number-decided s r ∙ decided-exactly (stepNumbers s r) tt k .1 f,
-)
+pub decided : (s : Guest) (r : Record) (k : ℕ) → (numberStepped (steppedOver s r) ≡ k) ↔ FirstFails k (stepNumbers s r)
+decided s r = first-exactly (stepNumbers s r) tt (promised s r refl)

@@ -5,7 +5,7 @@ use mathlib.Core.Bool.{Bool, false, not, _&&_, _||_}
 use mathlib.Core.List.{List, [], _∷_}
 use lib.Dec.{eqb}
 use Rattle.bits.specs.Among.{among}
-use Rattle.bits.specs.Decide.{Test, needs, decide}
+use Rattle.bits.specs.Decide.{Test, needs, decide, relabel}
 use Rattle.record.specs.Class.{headOf}
 use Rattle.record.specs.Sort.{sortOf}
 use Rattle.record.specs.declared.origin.Origin.{Origin}
@@ -20,18 +20,15 @@ use Rattle.step.specs.declared.over.SteppedOver.{SteppedOver}
 use Rattle.step.specs.Condition.{passes}
 use Rattle.step.specs.Step.{stepped}
 
--- the number, mask and count of each answer: only refusal 6 has a mask and a count
+-- the number of each answer
 abbrev pub stepNumber : Answer → ℕ
 stepNumber Stepped = 0
 stepNumber NoEdition = 5
 stepNumber UnsoundStatus = 9
 stepNumber NotStepped = 18
 
-abbrev pub stepMask : Answer → ℕ
-stepMask a = 0
-
-abbrev pub stepCount : Answer → ℕ
-stepCount a = 0
+abbrev pub numberStepped : SteppedOver → ℕ
+numberStepped d = stepNumber (d .answer)
 
 -- ---- the tests
 
@@ -54,26 +51,23 @@ maintains r = maintainsBy (sortOf r)
 abbrev pub isSteppedOver : ℕ → Record → Bool
 isSteppedOver w r = among (0x01 ∷ 0x13 ∷ []) (headOf r .class) || maintains r || not (passes w r)
 
--- the tests in their order, each with its number; 0 comes where none fails
-abbrev pub stepNumbers : Guest → Record → List (Test ℕ)
-stepNumbers s r =
-    needs (had r) 5
-    ∷ needs (sound (s .marks) (s .status)) 9
-    ∷ needs (isSteppedOver (s .status) r) 18
-    ∷ []
-
 -- ---- the call
 
 -- a refusal gives back the state as it came
 abbrev pub refusing : Answer → Guest → SteppedOver
 refusing a s = record { answer = a; state = s }
 
+-- the tests in their order
 abbrev pub stepTests : Guest → Record → List (Test SteppedOver)
 stepTests s r =
     needs (had r) (refusing NoEdition s)
     ∷ needs (sound (s .marks) (s .status)) (refusing UnsoundStatus s)
     ∷ needs (isSteppedOver (s .status) r) (refusing NotStepped s)
     ∷ []
+
+-- each with its number; 0 comes where none fails
+abbrev pub stepNumbers : Guest → Record → List (Test ℕ)
+stepNumbers s r = relabel numberStepped (stepTests s r)
 
 unfoldable pub steppedOver : Guest → Record → SteppedOver
 steppedOver s r = decide (stepTests s r) (record { answer = Stepped; state = stepped s (s .regs) (headOf r .il) })

@@ -1,14 +1,9 @@
--- What the two calls that step over an instruction promise: the answer and the whole state after it, and the answer's number, mask and
--- count.
-use mathlib.Core.Path.{_≡_}
-use Rattle.bits.specs.Decide.{decide}
+-- What the calls that step over an instruction promise: the answer and the whole state after it, and the answer's number.
+use Rattle.promise.specs.Promise.{Answers}
 use Rattle.record.specs.declared.kinds.Record.{Record}
 use Rattle.exception.specs.declared.state.Guest.{Guest}
 use Rattle.step.specs.declared.over.SteppedOver.{SteppedOver}
-use Rattle.step.specs.Over.{stepNumber, stepMask, stepCount, stepNumbers, steppedOver}
+use Rattle.step.specs.Over.{numberStepped, stepNumbers, steppedOver}
 
-pub record StepPromise (s : Guest) (r : Record) (d : SteppedOver) : Type 0 where
-  pub result : d ≡ steppedOver s r
-  pub number : stepNumber (d .answer) ≡ decide (stepNumbers s r) 0
-  pub mask : stepMask (d .answer) ≡ 0
-  pub count : stepCount (d .answer) ≡ 0
+abbrev pub StepPromise : Guest → Record → SteppedOver → Type 0
+StepPromise s r = Answers numberStepped (steppedOver s r) (stepNumbers s r)

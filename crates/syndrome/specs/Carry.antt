@@ -5,7 +5,7 @@ use Rattle.bits.specs.Decide.{needs, decide}
 use Rattle.edition.specs.Feature.{editions, isEdition}
 use Rattle.edition.specs.Mask.{maskOf, countBelow}
 use Rattle.form.specs.Form as Form
-use Rattle.form.specs.Promise.{Promise}
+use Rattle.promise.specs.Promise.{Promise}
 use Rattle.record.specs.declared.origin.Origin.{Origin}
 use Rattle.record.specs.declared.kinds.Esr.{Esr}
 use Rattle.record.specs.declared.kinds.Record.{Record}

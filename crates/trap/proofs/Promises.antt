@@ -10,8 +10,8 @@ use Rattle.bits.proofs.Deciding.{decide-relabel, decide-zero, decide-other}
 use Rattle.edition.specs.Feature.{editions}
 use Rattle.edition.specs.Mask.{maskOf, countBelow}
 use Rattle.edition.specs.declared.Refusal.the-variants.{UnknownEdition, UpperHalf, UnknownClass, ShortInstruction, NoEdition, OtherEditions}
-use Rattle.form.specs.Call.{sixOnly}
-use Rattle.form.proofs.Promises.{kept}
+use Rattle.promise.specs.Promise.{sixOnly}
+use Rattle.promise.proofs.Promises.{kept}
 use Rattle.record.specs.Addresses.{addressesOf}
 use Rattle.record.specs.declared.origin.Origin.{Origin}
 use Rattle.record.specs.declared.kinds.Esr.{Esr}

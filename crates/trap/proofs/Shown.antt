@@ -15,7 +15,7 @@ use Rattle.edition.specs.Mask.{maskOf, countBelow}
 use Rattle.edition.specs.declared.Refusal.{Refusal}
 use Rattle.edition.specs.declared.Refusal.the-variants.{OtherEditions}
 use Rattle.form.proofs.Calls.{OthersHave}
-use Rattle.form.proofs.Promises.{first-exactly, number-is}
+use Rattle.promise.proofs.Promises.{first-exactly, number-is}
 use Rattle.record.specs.Addresses.{addressesOf}
 use Rattle.record.specs.declared.origin.Origin.{Origin}
 use Rattle.record.specs.declared.kinds.Addresses.{Addresses}

@@ -6,7 +6,7 @@ use mathlib.Core.List.{List, [], _∷_, _++_}
 use Rattle.bits.specs.Decide.{Test, needs, decide}
 use Rattle.edition.specs.Feature.{editions}
 use Rattle.edition.specs.Mask.{maskOf, countBelow}
-use Rattle.form.specs.Promise.{Promise}
+use Rattle.promise.specs.Promise.{Promise}
 use Rattle.iss.specs.Rule.{implies}
 use Rattle.record.specs.Addresses.{addressesOf}
 use Rattle.record.specs.declared.origin.Origin.{Origin}

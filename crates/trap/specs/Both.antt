@@ -3,7 +3,7 @@ use Prim.Native.Nat.{ℕ}
 use Rattle.bits.specs.Decide.{decide}
 use Rattle.edition.specs.Feature.{editions}
 use Rattle.edition.specs.Mask.{maskOf, countBelow}
-use Rattle.form.specs.Promise.{Promise}
+use Rattle.promise.specs.Promise.{Promise}
 use Rattle.record.specs.declared.origin.Origin.{Origin}
 use Rattle.record.specs.declared.kinds.Esr.{Esr}
 use Rattle.address.specs.declared.Far.{Far}

@@ -1,7 +1,7 @@
 -- The paper's number, mask and number of ones of each answer (01, 'Numbers a call may answer'): 0, 0, 0 where a trap is shown, else the
 -- refusal's.
 use Prim.Native.Nat.{ℕ}
-use Rattle.form.specs.Promise.{Numbers}
+use Rattle.promise.specs.Promise.{Numbers}
 use Rattle.trap_refusal.specs.Numbers.{trapNumber, trapMask, trapCount}
 use Rattle.trap.specs.declared.Answer.{Answer}
 use Rattle.trap.specs.declared.Both.{Both}

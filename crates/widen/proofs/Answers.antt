@@ -8,7 +8,7 @@ use lib.Dec.{eqb}
 use borrow.Author.Tests.{eqb-true, eqb-false, ne-eqb}
 use Rattle.bits.specs.Decide.{FailsWith}
 use Rattle.bits.proofs.Arms.{absurd-answer}
-use Rattle.bits.proofs.Deciding.{decided-with-exactly, answer-is}
+use Rattle.promise.proofs.Promises.{fails-exactly, number-is}
 use Rattle.edition.specs.Feature.{editions as longCount}
 use Rattle.edition.specs.Mask.{maskBelow, maskOf as longMask}
 use Rattle.edition.proofs.Masks.{some-or-none, mask-zero}
@@ -77,18 +77,14 @@ module _ (mode : ℕ) (r : Short) where
 
   -- each number exactly: three tests answer 5
   pub widen-refused-exactly : (k : ℕ) → (numberWidened (widenOf mode r) ≡ k) ↔ FailsWith k (widenList mode r)
-  widen-refused-exactly k =
-      let law = decided-with-exactly (widenList mode r) k in
-      let said = widens mode r refl .number in
-      (λ t. law .0 (sym said ∙ t), λ f. said ∙ law .1 f)
+  widen-refused-exactly = fails-exactly (widenList mode r) (widens mode r refl)
 
   -- the numbers are 0, 5 and 9
   pub widen-numbers : (numberWidened (widenOf mode r) ≡ 0) ⊎ ((numberWidened (widenOf mode r) ≡ 5) ⊎ (numberWidened (widenOf mode r) ≡ 9))
   widen-numbers =
-      subst (λ (k : ℕ). (k ≡ 0) ⊎ ((k ≡ 5) ⊎ (k ≡ 9))) (sym (widens mode r refl .number))
-      (answer-is (λ k. (k ≡ 0) ⊎ ((k ≡ 5) ⊎ (k ≡ 9))) (widenList mode r) 0
+      number-is (λ k. (k ≡ 0) ⊎ ((k ≡ 5) ⊎ (k ≡ 9))) (widenList mode r) (widens mode r refl)
       (inr (inr refl), (inr (inl refl), (inr (inl refl), (inr (inl refl), tt))))
-      (inl refl))
+      (inl refl)
 
   -- the mode is tested first
   pub mode-first : isMode mode ≡ false → numberWidened (widenOf mode r) ≡ 9

@@ -1,10 +1,10 @@
 -- The change, one test after the other, as the code makes them; and its number.
 -- Assumes nothing.
-use mathlib.Core.Path.{_≡_, refl, sym, subst}
+use mathlib.Core.Path.{_≡_, refl}
 use mathlib.Core.Bool.{true, false}
 use Prim.Native.Nat.{ℕ}
 use lib.Dec.{eqb}
-use Rattle.bits.proofs.Deciding.{decide-relabel}
+use Rattle.promise.proofs.Promises.{by-tests}
 use Rattle.record.specs.declared.origin.Origin.{Origin}
 use Rattle.rule.specs.Has.{editionsOf as longEditions}
 use Rattle.short_record.specs.declared.kinds.Record.{Record as Short}
@@ -39,15 +39,6 @@ module _ (mode : ℕ) (r : Short) where
         unfolding widenOf
         widen-given l = simp (k, s, p, l)
 
-  widening : Widening mode r (widenOf mode r)
-  unfolding widenOf
-  widening =
-      record {
-        answer = refl;
-        number = decide-relabel numberWidened (widenTests mode r) (Widened.Long (longOf mode r));
-        mask = refl;
-        count = refl;
-      }
-
   pub widens : {a : Widened} → a ≡ widenOf mode r → Widening mode r a
-  widens same = subst (Widening mode r) (sym same) widening
+  unfolding widenOf
+  widens = by-tests numberWidened (widenTests mode r) (Widened.Long (longOf mode r)) refl refl

@@ -1,11 +1,11 @@
 -- The change of a short record to a long one (request C-11 of document 02): 9 for a mode that 01 doesn't accept, first; then 5 for a record
 -- that no short edition has, for a known register 15, or for a result that no long edition has; else the long record.
 use Prim.Native.Nat.{ℕ}
-use mathlib.Core.Path.{_≡_}
 use mathlib.Core.Bool.{Bool, not}
 use mathlib.Core.List.{List, [], _∷_}
 use lib.Dec.{eqb}
-use Rattle.bits.specs.Decide.{Test, needs, decide}
+use Rattle.bits.specs.Decide.{Test, needs, decide, relabel}
+use Rattle.promise.specs.Promise.{Answers}
 use Rattle.record.specs.declared.origin.Origin.{Origin}
 use Rattle.record.specs.declared.kinds.Record.{Record as Long}
 use Rattle.rule.specs.Has.{editionsOf as longEditions}
@@ -36,30 +36,16 @@ widenTests mode r =
 unfoldable pub widenOf : ℕ → Short → Widened
 widenOf mode r = decide (widenTests mode r) (Widened.Long (longOf mode r))
 
--- the paper's number, mask and number of ones of each answer: mask and number of ones come with 6 alone, which the change doesn't give
+-- the number of each answer
 abbrev pub numberWidened : Widened → ℕ
 numberWidened (Widened.Long r) = 0
 numberWidened Widened.BadMode = 9
 numberWidened Widened.NoEdition = 5
 
-abbrev pub maskWidened : Widened → ℕ
-maskWidened a = 0
-
-abbrev pub countWidened : Widened → ℕ
-countWidened a = 0
-
 -- the tests, each with its number
 abbrev pub widenList : ℕ → Short → List (Test ℕ)
-widenList mode r =
-    needs (isMode mode) 9
-    ∷ needs (someShort r) 5
-    ∷ needs (not (usesPc r)) 5
-    ∷ needs (someLong (longOf mode r)) 5
-    ∷ []
+widenList mode r = relabel numberWidened (widenTests mode r)
 
--- THE PROMISE: the answer; its number, that of the first test that fails; and mask and count, which are 0
-pub record Widening (mode : ℕ) (r : Short) (a : Widened) : Type 0 where
-  pub answer : a ≡ widenOf mode r
-  pub number : numberWidened a ≡ decide (widenList mode r) 0
-  pub mask : maskWidened a ≡ 0
-  pub count : countWidened a ≡ 0
+-- THE PROMISE: the answer, and its number, that of the first test that fails
+abbrev pub Widening : ℕ → Short → Widened → Type 0
+Widening mode r = Answers numberWidened (widenOf mode r) (widenList mode r)

@@ -24,7 +24,7 @@ returns : tie.Need-returns
 returns c =
     let call = c .before .before .before in
     let a = call .before .before .before .args in
-    let same = call .describe .ensures .answer ∙ ap (λ (s : Guest). describedAnswer s (a .word)) (call .before .state-of .ensures) in
+    let same = call .describe .ensures .answered .answer ∙ ap (λ (s : Guest). describedAnswer s (a .word)) (call .before .state-of .ensures) in
     record {
       answer = c .number .ensures ∙ ap answerNumber same;
       access = c .before .access-told .ensures ∙ ap accessTold same;

@@ -33,7 +33,7 @@ returns c =
     let a = call .before .before .before .before .args in
     let w = now (a .state) in
     let same =
-    call .finish .ensures .result
+    call .finish .ensures .answer
     ∙ ap (λ (s : Guest). finished s (a .word) (now (a .values))) (call .before .before .state-of .ensures) in
     record {
       lent = record {

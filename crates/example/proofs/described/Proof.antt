@@ -33,7 +33,7 @@ unfolding describing
 returns c =
     let at = c .before .before .before in
     let a = at .before .args in
-    ap (byDescription (a .state) (a .abort)) (sym (c .before .answer .given .1) ∙ at .describe .ensures .answer)
+    ap (byDescription (a .state) (a .abort)) (sym (c .before .answer .given .1) ∙ at .describe .ensures .answered .answer)
 
 returns-2 : tie.Need-returns-2
 unfolding describing
@@ -41,7 +41,7 @@ returns-2 c =
     let at = c .before .before in
     let a = at .before .args in
     c .injected .ensures ∙ undescribed (a .state) (a .abort) (at .describe .result .answer) (c .before .match .keys2)
-    ∙ ap (byDescription (a .state) (a .abort)) (at .describe .ensures .answer)
+    ∙ ap (byDescription (a .state) (a .abort)) (at .describe .ensures .answered .answer)
 
 pub described-spec : {M : Type 1} → statement M
 described-spec =

@@ -15,7 +15,7 @@ by-access-requires c κs = search needs
 returns : tie.Need-returns
 unfolding finishing
 returns c =
-    by-call (λ (d : Finished). byAccess (d .answer)) (λ (d : Finished). d .state) (c .by-access .ensures) (c .before .before .finish .ensures .result)
+    by-call (λ (d : Finished). byAccess (d .answer)) (λ (d : Finished). d .state) (c .by-access .ensures) (c .before .before .finish .ensures .answer)
 
 pub finished-spec : {M : Type 1} → statement M
 finished-spec = tie.close (tie.spec finish-requires by-access-requires returns)

@@ -21,7 +21,7 @@ returns : tie.Need-returns
 unfolding injecting
 returns c =
     by-call (λ (d : Injected). byNumber (answerNumber (d .answer))) (λ (d : Injected). d .state)
-    (c .by-number .ensures ∙ ap byNumber (c .before .number .ensures)) (c .before .before .before .inject .ensures .result)
+    (c .by-number .ensures ∙ ap byNumber (c .before .number .ensures)) (c .before .before .before .inject .ensures .answer)
 
 pub injected-spec : {M : Type 1} → statement M
 injected-spec = tie.close (tie.spec inject-requires number-requires by-number-requires returns)

@@ -21,7 +21,7 @@ returns : tie.Need-returns
 unfolding stepping
 returns c =
     by-call (λ (d : SteppedOver). byNumber (stepNumber (d .answer))) (λ (d : SteppedOver). d .state)
-    (c .by-number .ensures ∙ ap byNumber (c .before .number .ensures)) (c .before .before .before .step-over .ensures .result)
+    (c .by-number .ensures ∙ ap byNumber (c .before .number .ensures)) (c .before .before .before .step-over .ensures .answer)
 
 pub stepped-spec : {M : Type 1} → statement M
 stepped-spec = tie.close (tie.spec step-over-requires number-requires by-number-requires returns)

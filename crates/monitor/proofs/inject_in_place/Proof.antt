@@ -43,7 +43,7 @@ use denote.Exit.{yes}
 use Rattle.exception.specs.declared.state.Guest.{Guest}
 use Rattle.guest.specs.declared.injection.Injection.{Injection}
 use Rattle.guest.specs.declared.injector.Injected.{Injected}
-use Rattle.guest.specs.Promise.{Promise}
+use Rattle.guest.specs.Promise.{Injecting}
 use Rattle.exception.proofs.state.Guest as G
 use Rattle.exception.proofs.state.Guest.Laws as G′
 use Rattle.guest.proofs.injection.Injection as J
@@ -91,8 +91,8 @@ module _ {M : Type 1} (𝓤 : URA M) (H : Heap 𝓤) (A : Atoms 𝓤) (at-mem : 
 
   -- what its `ensures` says: it has no `&mut`, so nothing is said of last values
   said : (h : Guest) (w : Injection) (r : Injected)
-      → ent 𝓤 (ensured 𝓤 H A inject.ended (inject.clauses 𝓤 H A at-mem run) tt (h, (w, tt)) tt r) (fact 𝓤 (Promise h w r))
-  said h w r = exE 𝓤 _ (λ ws. snd∗ 𝓤 (sem 𝓤 H A (lasts inject.ended tt (h, (w, tt)) ws)) (fact 𝓤 (Promise h w r)))
+      → ent 𝓤 (ensured 𝓤 H A inject.ended (inject.clauses 𝓤 H A at-mem run) tt (h, (w, tt)) tt r) (fact 𝓤 (Injecting h w r))
+  said h w r = exE 𝓤 _ (λ ws. snd∗ 𝓤 (sem 𝓤 H A (lasts inject.ended tt (h, (w, tt)) ws)) (fact 𝓤 (Injecting h w r)))
 
 module _ {M : Type 1} (𝓤 : URA M) (H : Heap 𝓤) (A : Atoms 𝓤) (W : Given 𝓤 H A) (at-mem : Memory → SProp 𝓤) (run : Routine → Fun 𝓤)
     (κ : Lft) (q : Share) (b o : ℕ) (γ : GName) (h : Guest) (w : Injection) (is-w : Is J.the-row w (what-val w ∷ [])) where
@@ -105,7 +105,7 @@ module _ {M : Type 1} (𝓤 : URA M) (H : Heap 𝓤) (A : Atoms 𝓤) (W : Given
   abbrev Post : Val → SProp 𝓤
   Post = walkOf 𝓤 H A in-place.ended stayed (in-place.clauses 𝓤 H A at-mem run) .post (((κ, tt), (q, tt), tt, x, at), tt)
 
-  exits : (r : Injected) → Is N.the-row (r .answer) (answer-val r ∷ []) → Promise h w r
+  exits : (r : Injected) → Is N.the-row (r .answer) (answer-val r ∷ []) → Injecting h w r
       → ent 𝓤 (sep 𝓤 (A .obs γ (G.the-row .coded .code (r .state))) (sep 𝓤 (A .bor κ (Body (mem G.the-row) b o γ)) (A .lft κ q)))
       (Post (answer-val r))
   exits r is-a e =
@@ -151,8 +151,8 @@ module _ {M : Type 1} (𝓤 : URA M) (H : Heap 𝓤) (A : Atoms 𝓤) (W : Given
         (and-then ! (load ! (from ! (stop !)) (look ! 6 refl)) (and-then ! (load ! (from ! (stop !)) (look ! 10 refl)) (no-more !))) (λ v.
         use1 W (later (some (λ (r : Injected). (‵ ftrue ⊛ ‵ (I.the-row .own r (v ∷ []))) ⊛ raw
         (ensured 𝓤 H A inject.ended (inject.clauses 𝓤 H A at-mem run) tt (h, (w, tt)) tt r)))) (id⊢ 𝓤 _) $ await ! tt $ pick ! (λ r.
-        split ! $ move ! (1 ∷ []) $ use1 W (raw (fact 𝓤 (Promise h w r))) (said 𝓤 H A at-mem run h w r)
-        $ heard ! (Promise h w r) (λ e. split ! $ drop ! $
+        split ! $ move ! (1 ∷ []) $ use1 W (raw (fact 𝓤 (Injecting h w r))) (said 𝓤 H A at-mem run h w r)
+        $ heard ! (Injecting h w r) (λ e. split ! $ drop ! $
         peeks ! I.the-row (Is I.the-row) (shows 𝓤 H A I.the-row) r (v ∷ []) (λ is-r.
         land ! (from ! (stop !)) (init ! 8 refl (SL.lawful I.the-type I′.the-laws 𝓤 H A W .typed r _ is-r .0)) $
         rewrite ! 8 (λ (us : List Val). ‵ (fat fullShare I′.mir l₃ 0 (only us))) (SL.tells I.the-type I′.the-laws r (v ∷ []) is-r) refl

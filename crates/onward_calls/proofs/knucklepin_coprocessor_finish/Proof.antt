@@ -41,7 +41,7 @@ returns c =
     let a = call .before .before .before .before .before .args in
     let w = now (a .state) in
     let same =
-    call .finish .ensures .result
+    call .finish .ensures .answer
     ∙ ap₂ (λ (s : Guest) (r : Record). finished s r (a .first) (a .second)) (call .before .before .before .state-of .ensures)
     (call .before .record-of .ensures) in
     let first = c .before .before .before .first-in .ensures ∙ ap (λ (x : Finished). firstIn (x .answer)) same in

@@ -37,7 +37,7 @@ returns c =
     let a = call .before .before .before .before .before .args in
     let w = now (a .state) in
     let same =
-    call .finish .ensures .result
+    call .finish .ensures .answer
     ∙ ap₂ (λ (s : Guest) (r : Record). finished s r (a .value)) (call .before .before .before .state-of .ensures)
     (call .before .record-of .ensures) in
     record {

@@ -29,7 +29,7 @@ returns c =
     let call = c .before .before .before in
     let w = now (call .before .before .before .before .before .args .state) in
     let same =
-    call .step-over .ensures .result
+    call .step-over .ensures .answer
     ∙ ap₂ steppedOver (call .before .before .before .state-of .ensures) (call .before .record-of .ensures) in
     record {
       answer = c .number .ensures ∙ ap (λ (x : SteppedOver). stepNumber (x .answer)) same;

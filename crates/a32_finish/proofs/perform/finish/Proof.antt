@@ -54,7 +54,7 @@ returns c =
     promised (a .state) (a .word) (a .values)
     (c .performed .ensures
     ∙ numbered (a .state) (told .0 .0) (a .values) (read .describe .ensures .registers) (told .1)
-    ∙ settled (a .state) (a .word) (a .values) (sym (read .describe .ensures .answer) ∙ told .1))
+    ∙ settled (a .state) (a .word) (a .values) (sym (read .describe .ensures .answered .answer) ∙ told .1))
 
 returns-2 : tie.Need-returns-2
 returns-2 c =
@@ -62,7 +62,7 @@ returns-2 c =
     let a = read .before .args in
     promised (a .state) (a .word) (a .values)
     (c .refusing .ensures ∙ settled (a .state) (a .word) (a .values)
-    (sym (read .describe .ensures .answer) ∙ c .before .enum-told .given .1))
+    (sym (read .describe .ensures .answered .answer) ∙ c .before .enum-told .given .1))
 
 returns-3 : tie.Need-returns-3
 returns-3 c =
@@ -70,7 +70,7 @@ returns-3 c =
     let a = read .before .args in
     promised (a .state) (a .word) (a .values)
     (c .refusing2 .ensures ∙ settled (a .state) (a .word) (a .values)
-    (sym (read .describe .ensures .answer) ∙ c .before .enum-told2 .given .1))
+    (sym (read .describe .ensures .answered .answer) ∙ c .before .enum-told2 .given .1))
 
 returns-4 : tie.Need-returns-4
 returns-4 c =
@@ -78,7 +78,7 @@ returns-4 c =
     let a = read .before .args in
     promised (a .state) (a .word) (a .values)
     (c .refusing3 .ensures ∙ settled (a .state) (a .word) (a .values)
-    (sym (read .describe .ensures .answer) ∙ c .before .enum-told3 .given .1))
+    (sym (read .describe .ensures .answered .answer) ∙ c .before .enum-told3 .given .1))
 
 pub finish-spec : {M : Type 1} → statement M
 finish-spec =

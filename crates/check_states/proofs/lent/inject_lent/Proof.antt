@@ -45,7 +45,7 @@ use Rattle.guest.specs.declared.injection.Injection.{Injection}
 use Rattle.guest.specs.declared.injector.Injected.{Injected}
 use Rattle.guest.specs.declared.answer.Answer.{Answer}
 use Rattle.guest.specs.Inject.{injected}
-use Rattle.guest.specs.Promise.{Promise}
+use Rattle.guest.specs.Promise.{Injecting}
 use Rattle.exception.proofs.state.Guest as G
 use Rattle.exception.proofs.state.Guest.Laws as G′
 use Rattle.guest.proofs.injection.Injection as J
@@ -165,9 +165,9 @@ module _ {M : Type 1} (𝓤 : URA M) (H : Heap 𝓤) (A : Atoms 𝓤) (W : Given
         (and-then ! (load ! (from ! (stop !)) (look ! 4 refl)) (and-then ! (load ! (from ! (stop !)) (look ! 9 refl)) (no-more !))) (λ v.
         use1 W (later (some (λ (r : Answer). ((‵ (flft (α ∷ []) fullShare) ⊛ ‵ ftrue) ⊛ ‵ (N.the-row .own r (v ∷ [])))
         ⊛ some (λ (ws : Guest × (Unit {0} × Unit {0})). (‵ (fres δ (G.the-row .coded .code (ws .0))) ⊛ (‵ ftrue ⊛ ‵ ftrue)) ⊛ raw
-        (fact 𝓤 (Promise h w (both r (ws .0)))))))) (id⊢ 𝓤 _) $ await ! tt $ pick ! (λ r.
+        (fact 𝓤 (Injecting h w (both r (ws .0)))))))) (id⊢ 𝓤 _) $ await ! tt $ pick ! (λ r.
         split ! $ move ! (1 ∷ []) $ pick ! (λ ws. split ! $ move ! (1 ∷ [])
-        $ heard ! (Promise h w (both r (ws .0))) (λ e. split ! $ move ! (2 ∷ []) $ split ! $ move ! (1 ∷ []) $
+        $ heard ! (Injecting h w (both r (ws .0))) (λ e. split ! $ move ! (2 ∷ []) $ split ! $ move ! (1 ∷ []) $
         peeks ! N.the-row (Is N.the-row) (shows 𝓤 H A N.the-row) r (v ∷ []) (λ is-r.
         land ! (from ! (stop !)) (init ! 9 refl (EL.lawful N.the-type N′.the-laws 𝓤 H A W tt .typed r _ is-r .0)) $
         rewrite ! 9 (λ (us : List Val). ‵ (fat fullShare N′.mir l₄ 0 (only us))) (EL.tells N.the-type N′.the-laws r (v ∷ []) is-r) refl
@@ -190,7 +190,7 @@ module _ {M : Type 1} (𝓤 : URA M) (H : Heap 𝓤) (A : Atoms 𝓤) (W : Given
         move ! (15 ∷ 16 ∷ []) $ free1 ! $ move ! (13 ∷ 14 ∷ []) $ free1 ! $ move ! (11 ∷ 12 ∷ []) $ free1 ! $ move ! (1 ∷ 10 ∷ [])
         $ free1 ! $
         move ! (7 ∷ 8 ∷ []) $ free1 ! $ move ! (5 ∷ 6 ∷ []) $ free1 ! $ move ! (3 ∷ 4 ∷ []) $ free1 ! $ free0 ! $
-        keep ! [] $ by ! (exits (both r (ws .0)) (both-is r (ws .0) is-r is-s) (e .result))))))))))))))))))
+        keep ! [] $ by ! (exits (both r (ws .0)) (both-is r (ws .0) is-r is-s) (e .answer))))))))))))))))))
 
 module _ {M : Type 1} (𝓤 : URA M) (H : Heap 𝓤) (A : Atoms 𝓤) (W : Given 𝓤 H A) (at-mem : Memory → SProp 𝓤) (run : Routine → Fun 𝓤) where
   lent-walks : (C : Calls 𝓤 H) (Λ : Loops 𝓤 H) → FmC 𝓤 H (W .laws) C → Triple 𝓤 (C #monitor·inject-in-place) (InPlace 𝓤 H A at-mem run)

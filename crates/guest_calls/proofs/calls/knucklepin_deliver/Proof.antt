@@ -54,7 +54,7 @@ returns c =
     let call = c .before .before .before .before .before .before .before in
     let w = now (call .before .before .before .before .before .args .state) in
     let same =
-    call .deliver .ensures .result
+    call .deliver .ensures .answer
     ∙ ap₂ (stepOf guestDelivery) (call .before .before .queue-of .ensures) (call .before .state-of .ensures) in
     let waiting = c .before .before .before .number-of .ensures ∙ ap (λ (x : Step Guest). queueNumber (x .waiting)) same in
     let kind = c .before .before .delivered-number .ensures ∙ ap (λ (x : Step Guest). deliveredBy (x .answer)) same in

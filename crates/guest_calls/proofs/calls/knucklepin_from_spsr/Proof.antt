@@ -44,7 +44,7 @@ returns c =
       ssbs = call .before .before .is-mark2 .ensures i;
       dit = call .before .is-mark3 .ensures i;
     })
-    (call .from-spsr .ensures .result) (c .before .word .given .1) refl refl
+    (call .from-spsr .ensures .answer) (c .before .word .given .1) refl refl
 
 returns-2 : tie.Need-returns-2
 returns-2 c =
@@ -56,7 +56,7 @@ returns-2 c =
       ssbs = call .before .before .is-mark2 .ensures i;
       dit = call .before .is-mark3 .ensures i;
     })
-    (call .from-spsr .ensures .result) (c .enum-told .given .1) refl refl
+    (call .from-spsr .ensures .answer) (c .enum-told .given .1) refl refl
 
 pub knucklepin-from-spsr-spec : {M : Type 1} → statement M
 knucklepin-from-spsr-spec =

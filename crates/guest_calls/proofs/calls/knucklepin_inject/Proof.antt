@@ -30,7 +30,7 @@ returns c =
     let call = c .before .before .before in
     let w = now (call .before .before .before .before .args .state) in
     let same =
-    call .inject .ensures .result
+    call .inject .ensures .answer
     ∙ ap₂ injected (call .before .state-of .ensures) (call .before .before .injection-of .ensures) in
     record {
       answer = c .number .ensures ∙ ap (λ (x : Injected). answerNumber (x .answer)) same;

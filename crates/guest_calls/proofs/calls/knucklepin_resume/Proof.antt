@@ -29,7 +29,7 @@ returns c =
     let call = c .before .before .before in
     let a = call .before .before .before .args in
     let same =
-    call .resume .ensures .result
+    call .resume .ensures .answer
     ∙ ap (λ (s : Guest). returned s (Signed.Plus (a .correction))) (call .before .state-of .ensures) in
     record {
       answer = c .number .ensures ∙ ap (λ (x : Resumed). answerNumber (x .answer)) same;
