@@ -708,11 +708,9 @@ static const struct call {
     {"check_words", "hread", hread_row},      {"check_words", "hwrite", hwrite_row},   {"check_words", "hcarry", hcarry_row},
     {"check_words", "hagain", hagain_row},    {"check_words", "widen", widen_row},     {"check_states", "inject", inject_row},
     {"check_states", "lent", inject_row},     {"check_states", "spsr", spsr_row},      {"check_states", "finish", finish_row},
-    {"check_states", "finlent", finish_row},  {"check_states", "held", held_row},      {"check_runs", "run", run_row},
-    {"check_runs", "runlent", run_row},       {"check_a32", "decode", decode_row},     {"check_a32", "encode", NULL},
-    {"check_a32", "access", access_row},      {"check_onward", "passes", passes_row},  {"check_onward", "step", step_row},
-    {"check_onward", "stepin", step_row},     {"check_onward", "copro", copro_row},    {"check_onward", "coproin", copro_row},
-    {"check_onward", "perform", perform_row}, {"check_onward", "perfin", perform_row},
+    {"check_states", "held", held_row},       {"check_runs", "run", run_row},          {"check_a32", "decode", decode_row},
+    {"check_a32", "encode", NULL},            {"check_a32", "access", access_row},     {"check_onward", "passes", passes_row},
+    {"check_onward", "step", step_row},       {"check_onward", "copro", copro_row},    {"check_onward", "perform", perform_row},
 };
 
 static const struct call *call_of(const char *program, const char *line, size_t letters)

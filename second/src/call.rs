@@ -85,17 +85,13 @@ pub enum Call {
         marks: Marks,
         word: u32,
     },
-    /// By value or on a state that is lent.
     Finish {
-        lent: bool,
         value: u32,
         state: State,
         record: Record,
     },
-    /// Raises, delivery steps, injections and returns, the steps and the returns by value
-    /// or on a state that is lent.
+    /// Raises, delivery steps, injections and returns.
     Run {
-        lent: bool,
         run: Run,
     },
     Decode {
@@ -113,20 +109,16 @@ pub enum Call {
         status: u32,
         record: Record,
     },
-    /// By value or on a state that is lent, as the next two.
     Step {
-        lent: bool,
         state: State,
         record: Record,
     },
     Coprocess {
-        lent: bool,
         values: [u32; 2],
         state: State,
         record: Record,
     },
     Access {
-        lent: bool,
         word: u32,
         values: [u32; 16],
         state: State,
@@ -147,19 +139,15 @@ pub const WORDS: Checker = Checker {
     ],
 };
 
-pub const STATES: Checker = Checker {
-    name: "check_states",
-    calls: &["inject", "lent", "spsr", "finish", "finlent", "held"],
-};
+pub const STATES: Checker =
+    Checker { name: "check_states", calls: &["inject", "lent", "spsr", "finish", "held"] };
 
 pub const A32: Checker = Checker { name: "check_a32", calls: &["decode", "encode", "access"] };
 
-pub const RUNS: Checker = Checker { name: "check_runs", calls: &["run", "runlent"] };
+pub const RUNS: Checker = Checker { name: "check_runs", calls: &["run"] };
 
-pub const ONWARD: Checker = Checker {
-    name: "check_onward",
-    calls: &["passes", "step", "stepin", "copro", "coproin", "perform", "perfin"],
-};
+pub const ONWARD: Checker =
+    Checker { name: "check_onward", calls: &["passes", "step", "copro", "perform"] };
 
 pub const CHECKERS: [Checker; 5] = [WORDS, STATES, A32, RUNS, ONWARD];
 
@@ -250,18 +238,15 @@ impl Call {
                 let marks = Marks { pan: pan == 1, ssbs: ssbs == 1, dit: dit == 1 };
                 Some(Call::Spsr { marks, word: narrow(word)? })
             }
-            (b"finish" | b"finlent", [value, rest @ ..]) => {
+            (b"finish", [value, rest @ ..]) => {
                 let (state, record) = rest.split_at_checked(48)?;
                 Some(Call::Finish {
-                    lent: name == b"finlent",
                     value: narrow(*value)?,
                     state: State::from_numbers(state)?,
                     record: Record::from_row(&LONG, record)?,
                 })
             }
-            (b"run" | b"runlent", row) => {
-                Some(Call::Run { lent: name == b"runlent", run: Run::from_row(row)? })
-            }
+            (b"run", row) => Some(Call::Run { run: Run::from_row(row)? }),
             (b"decode", &[word]) => Some(Call::Decode { word: narrow(word)? }),
             (b"encode", fields) => Some(Call::Encode { fields: Fields::from_row(fields)? }),
             (b"access", [word, state @ ..]) => {
@@ -272,29 +257,26 @@ impl Call {
                 let record = Record::from_row(&LONG, record)?;
                 Some(Call::Passes { status: narrow(*status)?, record })
             }
-            (b"step" | b"stepin", rest) => {
+            (b"step", rest) => {
                 let (state, record) = rest.split_at_checked(48)?;
                 Some(Call::Step {
-                    lent: name == b"stepin",
                     state: State::from_numbers(state)?,
                     record: Record::from_row(&LONG, record)?,
                 })
             }
-            (b"copro" | b"coproin", &[first, second, ref rest @ ..]) => {
+            (b"copro", &[first, second, ref rest @ ..]) => {
                 let (state, record) = rest.split_at_checked(48)?;
                 Some(Call::Coprocess {
-                    lent: name == b"coproin",
                     values: [narrow(first)?, narrow(second)?],
                     state: State::from_numbers(state)?,
                     record: Record::from_row(&LONG, record)?,
                 })
             }
-            (b"perform" | b"perfin", [word, rest @ ..]) => {
+            (b"perform", [word, rest @ ..]) => {
                 let (values, state) = rest.split_at_checked(16)?;
                 let values =
                     values.iter().map(|&value| narrow(value)).collect::<Option<Vec<_>>>()?;
                 Some(Call::Access {
-                    lent: name == b"perfin",
                     word: narrow(*word)?,
                     values: values.try_into().ok()?,
                     state: State::from_numbers(state)?,
@@ -343,27 +325,21 @@ impl Call {
             Call::Spsr { marks: Marks { pan, ssbs, dit }, word } => {
                 ("spsr", row![*pan, *ssbs, *dit, *word])
             }
-            Call::Finish { lent, value, state, record } => {
-                let name = if *lent { "finlent" } else { "finish" };
-                (name, [row![*value], state.numbers(), record.row()].concat())
+            Call::Finish { value, state, record } => {
+                ("finish", [row![*value], state.numbers(), record.row()].concat())
             }
-            Call::Run { lent, run } => (if *lent { "runlent" } else { "run" }, run.row()),
+            Call::Run { run } => ("run", run.row()),
             Call::Decode { word } => ("decode", row![*word]),
             Call::Encode { fields } => ("encode", fields.row()),
             Call::Describe { word, state } => ("access", [row![*word], state.numbers()].concat()),
             Call::Passes { status, record } => ("passes", [row![*status], record.row()].concat()),
-            Call::Step { lent, state, record } => {
-                let name = if *lent { "stepin" } else { "step" };
-                (name, [state.numbers(), record.row()].concat())
+            Call::Step { state, record } => ("step", [state.numbers(), record.row()].concat()),
+            Call::Coprocess { values: [first, second], state, record } => {
+                ("copro", [row![*first, *second], state.numbers(), record.row()].concat())
             }
-            Call::Coprocess { lent, values: [first, second], state, record } => {
-                let name = if *lent { "coproin" } else { "copro" };
-                (name, [row![*first, *second], state.numbers(), record.row()].concat())
-            }
-            Call::Access { lent, word, values, state } => {
-                let name = if *lent { "perfin" } else { "perform" };
+            Call::Access { word, values, state } => {
                 let values = values.iter().map(|&value| value.into()).collect();
-                (name, [row![*word], values, state.numbers()].concat())
+                ("perform", [row![*word], values, state.numbers()].concat())
             }
         };
         format!("{name} {}", text(&numbers))
@@ -463,18 +439,16 @@ impl Call {
             Call::Spsr { marks, word } => {
                 answered(from_spsr(marks, *word).map(|status| row![status]).map_err(Refusal::plain))
             }
-            Call::Finish { value, state, record, .. } => {
-                match finish(aarch32, state, record, *value) {
-                    Ok((Access::Load, after)) => {
-                        [row![0u8, 0u8, 0u8], state.changes_to(&after)].concat()
-                    }
-                    Ok((Access::Store(value), after)) => {
-                        [row![0u8, 1u8, value], state.changes_to(&after)].concat()
-                    }
-                    Err(refusal) => row![refusal, 0u8, 0u8],
+            Call::Finish { value, state, record } => match finish(aarch32, state, record, *value) {
+                Ok((Access::Load, after)) => {
+                    [row![0u8, 0u8, 0u8], state.changes_to(&after)].concat()
                 }
-            }
-            Call::Run { run, .. } => run.answer(),
+                Ok((Access::Store(value), after)) => {
+                    [row![0u8, 1u8, value], state.changes_to(&after)].concat()
+                }
+                Err(refusal) => row![refusal, 0u8, 0u8],
+            },
+            Call::Run { run } => run.answer(),
             Call::Decode { word } => {
                 let form = a32::find(forms, *word).ok_or(Refusal::plain(19));
                 answered(form.map(|form| form.fields(*word).row()))
@@ -490,11 +464,11 @@ impl Call {
             Call::Passes { status, record } => {
                 row![passes(&Status::unpack(*status), record)]
             }
-            Call::Step { state, record, .. } => match step_over(aarch32, state, record) {
+            Call::Step { state, record } => match step_over(aarch32, state, record) {
                 Ok(after) => [row![0u8], state.changes_to(&after)].concat(),
                 Err(refusal) => row![refusal],
             },
-            Call::Coprocess { values, state, record, .. } => {
+            Call::Coprocess { values, state, record } => {
                 match coprocess(aarch32, state, record, *values) {
                     Ok((given, after)) => {
                         let padded = [0, 1].map(|i| given.get(i).copied().unwrap_or(0));
@@ -504,7 +478,7 @@ impl Call {
                     Err(refusal) => row![refusal, 0u8, 0u8, 0u8],
                 }
             }
-            Call::Access { word, values, state, .. } => match access(forms, state, *word, values) {
+            Call::Access { word, values, state } => match access(forms, state, *word, values) {
                 Ok(done) => {
                     let head = row![0u8, done.stored, done.addresses.len() as u64];
                     let lists = [sixteen(&done.addresses), sixteen(&done.values)].concat();
@@ -783,7 +757,7 @@ mod tests {
             "widen 1f 0 22 0",
             "spsr 1 0 1 1000010",
             &format!("inject 4 2 2 8000 1 ff{}", " 0".repeat(48)),
-            &format!("runlent{} 0 2 1 20 90 30", " 0".repeat(48)),
+            &format!("run{} 0 2 1 20 90 30", " 0".repeat(48)),
         ] {
             assert_eq!(Call::parse(line.as_bytes()).expect("a row").line(), line);
         }

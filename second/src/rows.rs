@@ -40,11 +40,11 @@ fn questions() -> Vec<String> {
         .chain(trap::questions(Origin::AArch32))
         .chain(inject::questions())
         .chain(finish::questions())
+        .chain(pending::questions())
+        .chain(nests::questions())
         .chain(short::questions())
         .chain(a32::questions())
-        .chain(pending::questions())
         .chain(inject::domain_questions())
-        .chain(nests::questions())
         .chain(onward::questions());
     let calls: Vec<Call> = calls.collect();
     let joined = derived(&calls);
@@ -238,7 +238,6 @@ mod tests {
             ("widen", 1000, "0 5 9"),
             ("spsr", 1000, "0 9"),
             ("finish", 500, "0 5 9 12"),
-            ("finlent", 100, "0 5 9 12"),
             ("again", 500, "0 1 2 3 4 5 6"),
             ("hagain", 300, "0 1 3 4 5 6"),
             ("hcarry", 1000, "0 1 4 5 6"),
@@ -247,14 +246,10 @@ mod tests {
             ("encode", 1000, "0 13"),
             ("access", 500, "0 9 13"),
             ("run", 900, "0 9 a"),
-            ("runlent", 200, "0 9 a"),
             ("passes", 800, "0 1"),
             ("step", 400, "0 5 9 12"),
-            ("stepin", 60, "0 5 9 12"),
             ("copro", 700, "0 5 9 12"),
-            ("coproin", 100, "0 5 9 12"),
             ("perform", 500, "0 9 13"),
-            ("perfin", 70, "0 9 13"),
         ];
         let files = files().expect("the cases of the paper");
         let mut given: BTreeMap<String, (usize, BTreeSet<String>)> = BTreeMap::new();

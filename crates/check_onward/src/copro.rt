@@ -1,6 +1,8 @@
-// `copro FIRST SECOND STATE RECORD`: coprocessor::finish.
+// `copro FIRST SECOND STATE RECORD`: coprocessor::finish, by way of act::act.
+use act::Acted;
+use act::Action;
+use act::Outcome;
 use coprocessor::Answer;
-use coprocessor::Finished;
 use record_rows::Given;
 use rows::Reply;
 use rows::Row;
@@ -22,15 +24,20 @@ fn with_given(reply: Reply, answer: Answer) -> Reply {
     }
 }
 
-pub fn shown(before: Row, done: Finished) -> Reply {
-    let answer = done.answer;
+fn shown(before: Row, done: Acted) -> Reply {
+    let outcome = done.outcome;
     let after = done.state;
-    let given = with_given(one(coprocessor::number(answer) as u64), answer);
-    with_state(given, before, after)
+    match outcome {
+        Outcome::Coprocessor(answer) => {
+            let given = with_given(one(coprocessor::number(answer) as u64), answer);
+            with_state(given, before, after)
+        }
+        _ => rows::no_row(),
+    }
 }
 
 // The record of a row that begins with two values and a state.
-pub fn asked(row: Row) -> Given {
+fn asked(row: Row) -> Given {
     let before = rest(row, 2);
     if !(rows::begins(row, b"ww") & state_rows::leads(before)) {
         return Given::None;
@@ -43,7 +50,10 @@ pub fn answer(row: Row) -> Reply {
     match asked(row) {
         Given::Record(what) => shown(
             before,
-            coprocessor::finish(state(before), what, word(row, 0), word(row, 1)),
+            act::act(
+                state(before),
+                Action::Coprocessor(what, word(row, 0), word(row, 1)),
+            ),
         ),
         Given::None => rows::no_row(),
     }

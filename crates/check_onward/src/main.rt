@@ -2,10 +2,7 @@
 // the numbers that it is asked with, and is answered by a line of numbers, or by `no row` (second/README.md).
 mod conditions;
 mod copro;
-mod coproin;
-mod perfin;
 mod perform;
-mod stepin;
 mod steps;
 
 use rows::Reply;
@@ -19,20 +16,11 @@ fn call(row: Row) -> Reply {
     if is(row, b"step") {
         return steps::answer(row);
     }
-    if is(row, b"stepin") {
-        return stepin::answer(row);
-    }
     if is(row, b"copro") {
         return copro::answer(row);
     }
-    if is(row, b"coproin") {
-        return coproin::answer(row);
-    }
     if is(row, b"perform") {
         return perform::answer(row);
-    }
-    if is(row, b"perfin") {
-        return perfin::answer(row);
     }
     rows::no_row()
 }

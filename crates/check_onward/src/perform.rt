@@ -30,7 +30,7 @@ fn with_sixteen(reply: Reply, words: [u32; 16]) -> Reply {
     with_words(reply, &words)
 }
 
-pub fn shown(before: Row, done: Finished) -> Reply {
+fn shown(before: Row, done: Finished) -> Reply {
     let outcome = done.outcome;
     let answer = outcome.answer;
     let addresses = outcome.addresses;
@@ -42,7 +42,7 @@ pub fn shown(before: Row, done: Finished) -> Reply {
 }
 
 // The sixteen values that a row begins with.
-pub fn values(row: Row) -> [u32; 16] {
+fn values(row: Row) -> [u32; 16] {
     let mut all = [0u32; 16];
     let mut i = 0;
     while i < 16 {
@@ -53,7 +53,7 @@ pub fn values(row: Row) -> [u32; 16] {
 }
 
 // Whether a row is a word, sixteen values and a state.
-pub fn is_asked(row: Row) -> bool {
+fn is_asked(row: Row) -> bool {
     rows::begins(row, b"wwwwwwwwwwwwwwwww") & is_state(rest(row, 17))
 }
 

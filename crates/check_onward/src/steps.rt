@@ -1,4 +1,7 @@
-// `step STATE RECORD`: step::step_over.
+// `step STATE RECORD`: step::step_over, by way of act::act.
+use act::Acted;
+use act::Action;
+use act::Outcome;
 use record_rows::Given;
 use rows::Reply;
 use rows::Row;
@@ -6,16 +9,20 @@ use rows::one;
 use rows::rest;
 use state_rows::state;
 use state_rows::with_state;
-use step::SteppedOver;
 
-pub fn shown(before: Row, done: SteppedOver) -> Reply {
-    let answer = done.answer;
+fn shown(before: Row, done: Acted) -> Reply {
+    let outcome = done.outcome;
     let after = done.state;
-    with_state(one(step::number(answer) as u64), before, after)
+    match outcome {
+        Outcome::SteppedOver(answer) => {
+            with_state(one(step::number(answer) as u64), before, after)
+        }
+        _ => rows::no_row(),
+    }
 }
 
 // The record of a row that begins with a state.
-pub fn asked(row: Row) -> Given {
+fn asked(row: Row) -> Given {
     if !state_rows::leads(row) {
         return Given::None;
     }
@@ -24,7 +31,7 @@ pub fn asked(row: Row) -> Given {
 
 pub fn answer(row: Row) -> Reply {
     match asked(row) {
-        Given::Record(what) => shown(row, step::step_over(state(row), what)),
+        Given::Record(what) => shown(row, act::act(state(row), Action::StepOver(what))),
         Given::None => rows::no_row(),
     }
 }

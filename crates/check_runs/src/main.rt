@@ -1,6 +1,5 @@
 // Answers the second program's questions to the queue of waiting interrupts and to the return. Each line of standard input is a row, a word
 // and the numbers of a whole run, and is answered by a line of numbers, every call's, or by `no row` (second/README.md).
-mod lent;
 mod run;
 
 use rows::Reply;
@@ -9,10 +8,7 @@ use rows::is;
 
 fn call(row: Row) -> Reply {
     if is(row, b"run") {
-        return run::answer(row, false);
-    }
-    if is(row, b"runlent") {
-        return run::answer(row, true);
+        return run::answer(row);
     }
     rows::no_row()
 }

@@ -1,16 +1,13 @@
-// `run STATE CALL ..` and `runlent STATE CALL ..`: pending::raise, delivery::deliver or monitor::deliver_in_place, guest::inject, and
-// resume::resume or monitor::resume_in_place, at most 24 calls that start with nothing waiting.
-use super::lent::deliver_lent;
-use super::lent::resume_lent;
+// `run STATE CALL ..`: pending::raise, and by way of act::act delivery::deliver, guest::inject and resume::resume, at most 24 calls that
+// start with nothing waiting.
+use act::Action;
+use act::Outcome;
 use delivery::Answer;
-use delivery::Delivered;
-use delivery::deliver;
 use exception::Guest;
 use guest::Injection;
 use injection_rows::Asked;
 use pending::Kind;
 use pending::Queue;
-use resume::Resumed;
 use rows::Reply;
 use rows::Row;
 use rows::joined;
@@ -145,30 +142,26 @@ fn left(run: Run, queue: Queue, said: Reply, after: Guest) -> Run {
     }
 }
 
-fn done(run: Run, step: Delivered) -> Run {
+fn delivered(run: Run, outcome: delivery::Outcome, after: Guest) -> Run {
     let reply = run.reply;
-    let outcome = step.outcome;
     let answer = outcome.answer;
     let queue = outcome.queue;
-    let after = step.state;
     let said = with(with(reply, delivery::number(answer) as u64), name(answer));
     left(run, queue, said, after)
 }
 
-fn delivered(queue: Queue, before: Guest, lent: bool) -> Delivered {
-    if lent {
-        deliver_lent(before, queue)
-    } else {
-        deliver(queue, before)
-    }
-}
-
 // `1 CHANGE .. 30`.
-fn step(run: Run, lent: bool) -> Run {
+fn step(run: Run) -> Run {
     let asked = changes(skipped(run, 1));
     let queue = asked.queue;
     let row = asked.row;
-    done(asked, delivered(queue, state(row), lent))
+    let done = act::act(state(row), Action::Deliver(queue));
+    let outcome = done.outcome;
+    let after = done.state;
+    match outcome {
+        Outcome::Delivered(outcome) => delivered(asked, outcome, after),
+        _ => malformed(run),
+    }
 }
 
 // A correction is told by its sign, 0 or 1 for minus, and its size.
@@ -185,10 +178,10 @@ fn injected(run: Run, what: Injection) -> Run {
     let reply = run.reply;
     let before = state(row);
     let correction = guest::correction(before, what);
-    let done = guest::inject(before, what);
-    let answer = done.answer;
+    let done = act::act(before, Action::Inject(what));
+    let outcome = done.outcome;
     let after = done.state;
-    let said = with_correction(with(reply, guest::number(answer) as u64), correction);
+    let said = with_correction(with(reply, act::number(outcome) as u64), correction);
     left(skipped(run, 7), queue, said, after)
 }
 
@@ -201,51 +194,43 @@ fn inject(run: Run) -> Run {
     }
 }
 
-fn resumed(before: Guest, correction: Signed, lent: bool) -> Resumed {
-    if lent {
-        resume_lent(before, correction)
-    } else {
-        resume::resume(before, correction)
-    }
-}
-
-fn returned(run: Run, correction: Signed, lent: bool) -> Run {
+fn returned(run: Run, correction: Signed) -> Run {
     let row = run.row;
     let queue = run.queue;
     let reply = run.reply;
-    let done = resumed(state(row), correction, lent);
-    let answer = done.answer;
+    let done = act::act(state(row), Action::Resume(correction));
+    let outcome = done.outcome;
     let after = done.state;
-    let said = with(reply, resume::number(answer) as u64);
+    let said = with(reply, act::number(outcome) as u64);
     left(skipped(run, 3), queue, said, after)
 }
 
 // `3 SIGN SIZE`.
-fn go_back(run: Run, lent: bool) -> Run {
+fn go_back(run: Run) -> Run {
     let row = run.row;
     let size = word(row, wrapping_add_usize(run.at, 2));
     if number(run, 2) != size as u64 {
         return malformed(run);
     }
     match number(run, 1) {
-        0 => returned(run, Signed::Plus(size), lent),
-        1 => returned(run, Signed::Minus(size), lent),
+        0 => returned(run, Signed::Plus(size)),
+        1 => returned(run, Signed::Minus(size)),
         _ => malformed(run),
     }
 }
 
-fn call(run: Run, lent: bool) -> Run {
+fn call(run: Run) -> Run {
     match number(run, 0) {
         0 => raise(run),
-        1 => step(run, lent),
+        1 => step(run),
         2 => inject(run),
-        3 => go_back(run, lent),
+        3 => go_back(run),
         _ => malformed(run),
     }
 }
 
 // A run without a call has no number in its reply, and so is no row.
-pub fn answer(row: Row, lent: bool) -> Reply {
+pub fn answer(row: Row) -> Reply {
     let mut run = start(row);
     let count = rows::count(row);
     let mut calls: u32 = 24;
@@ -253,7 +238,7 @@ pub fn answer(row: Row, lent: bool) -> Reply {
         if run.at >= count {
             break;
         }
-        run = call(run, lent);
+        run = call(run);
         calls -= 1;
     }
     let reply = run.reply;

@@ -1,6 +1,8 @@
-// `finish VALUE STATE RECORD`: device::finish.
+// `finish VALUE STATE RECORD`: device::finish, by way of act::act.
+use act::Acted;
+use act::Action;
+use act::Outcome;
 use device::Answer;
-use device::Finished;
 use record_rows::Given;
 use rows::Reply;
 use rows::Row;
@@ -19,15 +21,20 @@ fn with_access(reply: Reply, answer: Answer) -> Reply {
     }
 }
 
-pub fn shown(before: Row, done: Finished) -> Reply {
-    let answer = done.answer;
+fn shown(before: Row, done: Acted) -> Reply {
+    let outcome = done.outcome;
     let after = done.state;
-    let access = with_access(one(device::number(answer) as u64), answer);
-    with_state(access, before, after)
+    match outcome {
+        Outcome::Finished(answer) => {
+            let access = with_access(one(device::number(answer) as u64), answer);
+            with_state(access, before, after)
+        }
+        _ => rows::no_row(),
+    }
 }
 
 // The record of a row that begins with a value and a state.
-pub fn asked(row: Row) -> Given {
+fn asked(row: Row) -> Given {
     let before = rest(row, 1);
     if !(rows::begins(row, b"w") & state_rows::leads(before)) {
         return Given::None;
@@ -38,7 +45,10 @@ pub fn asked(row: Row) -> Given {
 pub fn answer(row: Row) -> Reply {
     let before = rest(row, 1);
     match asked(row) {
-        Given::Record(what) => shown(before, device::finish(state(before), what, word(row, 0))),
+        Given::Record(what) => shown(
+            before,
+            act::act(state(before), Action::Finish(what, word(row, 0))),
+        ),
         Given::None => rows::no_row(),
     }
 }

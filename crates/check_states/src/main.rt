@@ -1,7 +1,6 @@
 // Answers the second program's questions to the calls on a guest's state and its status word. Each line of standard input is a row, the
 // word of a call and the numbers that it is asked with, and is answered by a line of numbers, or by `no row` (second/README.md).
 mod finish;
-mod finlent;
 mod held;
 mod inject;
 mod lent;
@@ -23,9 +22,6 @@ fn call(row: Row) -> Reply {
     }
     if is(row, b"finish") {
         return finish::answer(row);
-    }
-    if is(row, b"finlent") {
-        return finlent::answer(row);
     }
     if is(row, b"held") {
         return held::answer(row);

@@ -47,7 +47,7 @@ unfolding guestDelivery
 passed q s e f h = sym (step-taken guestDelivery (listOf q) s (ap (λ (m : ℕ). eqb m 0) (both s e f)) h)
 
 -- an answer's number is the plain answer's
-same-number : (a : Answer) → answerNumber a ≡ plain.answerNumber (plainAnswer a)
+pub same-number : (a : Answer) → answerNumber a ≡ plain.answerNumber (plainAnswer a)
 same-number (Delivered k) = refl
 same-number Nothing = refl
 same-number UnsoundStatus = refl

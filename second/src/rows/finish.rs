@@ -1,4 +1,4 @@
-//! Questions to the call that finishes a load or store, by value and lent.
+//! Questions to the call that finishes a load or store.
 
 use super::samples::{calls, fields_too_large, record, samples, sweep, with};
 use super::Turn;
@@ -22,20 +22,17 @@ pub fn questions() -> Vec<Call> {
     questions.extend(order_of_tests());
     questions.extend(records());
     questions.extend(random_questions());
-    let by_value = questions.iter().map(|question| ask(false, question));
-    // The lent call makes the call by value: a seventh of its questions.
-    let lent = questions.iter().step_by(7).map(|question| ask(true, question));
-    by_value.chain(lent).collect()
+    questions.into_iter().map(ask).collect()
 }
 
 /// Request C-23: records of AArch64's classes alone, and loads that only AArch64 has.
 pub fn records_of_aarch64() -> Vec<Call> {
     let records = samples(Origin::AArch64).map(|record| (7, plain_state(), record));
-    records.map(|question| ask(false, &question)).collect()
+    records.map(ask).collect()
 }
 
-fn ask(lent: bool, (value, state, record): &Question) -> Call {
-    Call::Finish { lent, value: *value, state: state.clone(), record: record.clone() }
+fn ask((value, state, record): Question) -> Call {
+    Call::Finish { value, state, record }
 }
 
 /// A word load of register 3.

@@ -50,21 +50,13 @@ fn rows() -> Vec<String> {
     }
     rows.push(format!("access e5910004{state}"));
     rows.push(format!("finish 1{state} 9 1 1 2 0 3 0 0 0 0 0 0 0 1 5"));
-    rows.push(format!("finlent 1{state} 6 11 1 ffff"));
+    rows.push(format!("finish 1{state} 6 11 1 ffff"));
     rows.push("passes 10 1 1 1 e 1".into());
-    for word in ["step", "stepin"] {
-        rows.push(format!("{word}{state} 1 1 1 e 1"));
-    }
-    for word in ["copro", "coproin"] {
-        rows.push(format!("{word} 1 2{state} 3 4 1 1 e 1 2 3 4 0"));
-    }
-    for word in ["perform", "perfin"] {
-        rows.push(format!("{word} e5910004{}{state}", " 1".repeat(16)));
-    }
-    for word in ["run", "runlent"] {
-        rows.push(format!("{word}{state} 0 2 1 20 10 2b 40 2d 1 30 1 30"));
-        rows.push(format!("{word}{state} 2 4 0 0 8000 1 3 1 2"));
-    }
+    rows.push(format!("step{state} 1 1 1 e 1"));
+    rows.push(format!("copro 1 2{state} 3 4 1 1 e 1 2 3 4 0"));
+    rows.push(format!("perform e5910004{}{state}", " 1".repeat(16)));
+    rows.push(format!("run{state} 0 2 1 20 10 2b 40 2d 1 30 1 30"));
+    rows.push(format!("run{state} 2 4 0 0 8000 1 3 1 2"));
     rows
 }
 

@@ -20,14 +20,7 @@ pub fn questions() -> Vec<Call> {
     runs.extend(saved_words());
     runs.extend(corrections());
     runs.extend(random_nests());
-    let by_value = runs.iter().map(|run| ask(false, run));
-    // The lent calls make the calls by value: a quarter of their questions.
-    let lent = runs.iter().step_by(4).map(|run| ask(true, run));
-    by_value.chain(lent).collect()
-}
-
-fn ask(lent: bool, run: &Run) -> Call {
-    Call::Run { lent, run: run.clone() }
+    runs.into_iter().map(|run| Call::Run { run }).collect()
 }
 
 /// Places of numbers in a state.

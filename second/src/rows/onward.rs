@@ -1,4 +1,4 @@
-//! Questions to the calls that go on after a trap, by value and lent.
+//! Questions to the calls that go on after a trap.
 
 use super::a32::accesses;
 use super::samples::{calls, fields_too_large, record, samples, sweep, with};
@@ -13,31 +13,18 @@ use crate::status::{Marks, Status, MODES};
 
 pub fn questions() -> Vec<Call> {
     let mut questions = conditions();
-    questions.extend(both(&steps(), |lent, (state, record)| Call::Step {
-        lent,
-        state: state.clone(),
-        record: record.clone(),
+    questions.extend(steps().into_iter().map(|(state, record)| Call::Step { state, record }));
+    questions.extend(transfers().into_iter().map(|(values, state, record)| Call::Coprocess {
+        values,
+        state,
+        record,
     }));
-    questions.extend(both(&transfers(), |lent, (values, state, record)| Call::Coprocess {
-        lent,
-        values: *values,
-        state: state.clone(),
-        record: record.clone(),
-    }));
-    questions.extend(both(&finishes(), |lent, (word, values, state)| Call::Access {
-        lent,
-        word: *word,
-        values: *values,
-        state: state.clone(),
+    questions.extend(finishes().into_iter().map(|(word, values, state)| Call::Access {
+        word,
+        values,
+        state,
     }));
     questions
-}
-
-/// By value, and lent, which makes the call by value, a seventh of the questions.
-fn both<T>(questions: &[T], call: impl Fn(bool, &T) -> Call) -> Vec<Call> {
-    let by_value = questions.iter().map(|question| call(false, question));
-    let lent = questions.iter().step_by(7).map(|question| call(true, question));
-    by_value.chain(lent).collect()
 }
 
 /// A WFI with a condition.

@@ -21,14 +21,7 @@ pub fn questions() -> Vec<Call> {
     runs.extend(control_bits());
     runs.extend(every_mark());
     runs.extend(random_runs());
-    let by_value = runs.iter().map(|run| ask(false, run));
-    // The lent call makes the call by value: a quarter of its questions.
-    let lent = runs.iter().step_by(4).map(|run| ask(true, run));
-    by_value.chain(lent).collect()
-}
-
-fn ask(lent: bool, run: &Run) -> Call {
-    Call::Run { lent, run: run.clone() }
+    runs.into_iter().map(|run| Call::Run { run }).collect()
 }
 
 /// Places of numbers in a state.

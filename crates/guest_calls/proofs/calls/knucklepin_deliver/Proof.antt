@@ -1,29 +1,19 @@
 -- `guest_calls::calls::knucklepin_deliver` meets its contract: answer, words and queue are those of the plain queue's step.
 -- Assumes nothing.
 use borrow.Author.Needs.{needs}
-use mathlib.Core.Path.{_≡_, refl, ap, ap₂, _∙_}
-use mathlib.Core.List.{List, [], _∷_}
-use Prim.Native.Nat.{ℕ}
+use mathlib.Core.Path.{ap, ap₂, _∙_}
+use mathlib.Core.List.{[], _∷_}
 use denote.Ref.{now}
 use Rattle.exception.specs.declared.state.Guest.{Guest}
 use Rattle.pending.specs.Step.{Step, stepOf}
 use Rattle.pending.specs.Step as plain
-use Rattle.delivery.specs.Answer.{answerNumber, plainAnswer}
 use Rattle.delivery.specs.Deliver.{guestDelivery}
-use Rattle.delivery.specs.declared.Answer.{Answer}
-use Rattle.delivery.specs.declared.Answer.the-variants.{Delivered, Nothing, UnsoundStatus, UnalignedVbar}
+use Rattle.delivery.proofs.Answers.{same-number}
 use Rattle.pending_words.specs.Number.{queueNumber}
 use Rattle.state_words.specs.Words.{wordsOf}
 use Rattle.guest_calls.specs.Calls.{deliveredBy}
 use Rattle.guest_calls.proofs.calls.knucklepin_deliver.Statement.{statement}
 use Rattle.guest_calls.proofs.calls.knucklepin_deliver.Tie as tie
-
--- an answer has the number of the plain queue's
-plain-number : (a : Answer) → answerNumber a ≡ plain.answerNumber (plainAnswer a)
-plain-number (Delivered k) = refl
-plain-number Nothing = refl
-plain-number UnsoundStatus = refl
-plain-number UnalignedVbar = refl
 
 element-copy-out-queue-of : tie.Need-element-copy-out-queue-of
 element-copy-out-queue-of c = search needs
@@ -59,7 +49,7 @@ returns c =
     let waiting = c .before .before .before .number-of .ensures ∙ ap (λ (x : Step Guest). queueNumber (x .waiting)) same in
     let kind = c .before .before .delivered-number .ensures ∙ ap (λ (x : Step Guest). deliveredBy (x .answer)) same in
     record {
-      answer = c .number .ensures ∙ plain-number (call .deliver .result .outcome .answer)
+      answer = c .number .ensures ∙ same-number (call .deliver .result .outcome .answer)
           ∙ ap (λ (x : Step Guest). plain.answerNumber (x .answer)) same;
       words = c .before .before .before .before .words-of .ensures ∙ ap (λ (x : Step Guest). wordsOf w (x .state)) same;
       pending = λ i. waiting i ∷ kind i ∷ [];

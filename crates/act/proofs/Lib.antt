@@ -1,0 +1,2 @@
+-- The law of a refusal, over every action.
+pub mod Untouched

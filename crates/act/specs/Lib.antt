@@ -1,0 +1,2 @@
+-- Every action on a guest's state.
+pub mod Acting
