@@ -100,8 +100,8 @@ fn runs(name: &str, help: &str) -> io::Result<Vec<Run>> {
         run(&["--help"], asked(), Output::Pipe, help.as_bytes(), ""),
         run(&["--help"], asked(), Output::Full, b"", NO_ROOM),
     ];
-    // An input that breaks off after each of its bytes: of lines those that have ended are answered.
-    for length in 0..=question.len() {
+    // An input that breaks off, lines after each byte: those that have ended are answered.
+    for length in (0..=question.len()).step_by(1 + question.len() / 64) {
         let read = &question[..length];
         let whole = read.iter().rposition(|&byte| byte == b'\n').map_or(0, |at| at + 1);
         let written = match name {
@@ -225,11 +225,11 @@ fn interrupted(path: &Path, name: &str) -> io::Result<bool> {
     drop(command);
     let (first, second) = input.split_at(30);
     stop_and_go(&child)?;
-    questions.write_all(first)?;
+    send(&mut questions, first)?;
     stop_and_go(&child)?;
     let mut written = Vec::new();
     thread::scope(|scope| {
-        let writer = scope.spawn(move || questions.write_all(second));
+        let writer = scope.spawn(move || send(&mut questions, second));
         // Its output is full when it sleeps though there is more input.
         thread::sleep(Duration::from_millis(200));
         let stopped = (0..3).try_for_each(|_| stop_and_go(&child));
@@ -239,6 +239,14 @@ fn interrupted(path: &Path, name: &str) -> io::Result<bool> {
     let told = told(&mut child)?;
     let expected = answers_of(name, &input)?;
     Ok(compared(&format!("{name}, interrupted"), &written, &expected, &told, ""))
+}
+
+/// Writes an input. A program that has ended early has written what it has written.
+fn send(questions: &mut UnixStream, input: &[u8]) -> io::Result<()> {
+    match questions.write_all(input) {
+        Err(error) if error.kind() == io::ErrorKind::BrokenPipe => Ok(()),
+        sent => sent,
+    }
 }
 
 /// A program whose output takes some bytes and then no more: what it wrote is the beginning of

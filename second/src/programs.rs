@@ -339,14 +339,30 @@ fn trapread_inputs() -> Vec<(String, Vec<u8>)> {
             format!("{:x} {word:016x}", random.below(16))
         }),
     ));
+    inputs.push((
+        "more than 16 MB, mostly of long lines".into(),
+        long_input(17 << 20, 18, question_or_long_line),
+    ));
     inputs.push(("a line of some MiB".into(), "0".repeat(3 << 20).into_bytes()));
     inputs.push(("some million newlines".into(), "\n".repeat(2 << 20).into_bytes()));
     inputs
 }
 
-/// Stored questions and those of the trap reader, which ends of an input are tried on.
+/// A question, or one that some KiB follow in its line.
+fn question_or_long_line(random: &mut Random) -> String {
+    let word = 0x9200_0000 + random.below(64);
+    let rest = "0".repeat((random.below(2) * random.below(4096)) as usize);
+    format!("{:x} {word:016x}{rest}", random.below(16))
+}
+
+/// Stored questions, a MiB of lines, and the questions of the trap reader, which ends of an
+/// input are tried on.
 fn explain_inputs() -> Vec<(String, Vec<u8>)> {
     let mut inputs = vec![("the questions".into(), explain::questions().into_bytes())];
+    inputs.push((
+        "a MiB, mostly of long lines".into(),
+        long_input(1 << 20, 18, question_or_long_line),
+    ));
     let small = trapread_inputs().into_iter().filter(|(_, input)| input.len() < 1 << 16);
     inputs.extend(small);
     inputs

@@ -105,16 +105,17 @@ shapeCounts =
 abbrev pub asynchronous : ℕ → Bool
 asynchronous code = eqb code 0x11 || eqb code 0x19
 
-unfoldable pub tests : ℕ → List Bool
-tests w =
-    let code = fieldOf w 5 0 in
-    true ∷ bitOf w 24 ∷ (bitOf w 24 && not (bitOf w 6)) ∷ not (bitOf (fieldOf w 3 1) 2) ∷ bitOf w 19 ∷ eqb code 0x10 ∷ eqb code 0x11
-    ∷ mmuFault code
+unfoldable pub testsOf : ℕ → Bool → Bool → Bool → Bool → Bool → List Bool
+testsOf code valid wnr literal ccknownpass cm =
+    true ∷ valid ∷ (valid && not wnr) ∷ not literal ∷ ccknownpass ∷ eqb code 0x10 ∷ eqb code 0x11 ∷ mmuFault code
     ∷ (eqb code 0x31 || eqb code 0x35)
-    ∷ not (bitOf w 8)
+    ∷ not cm
     ∷ not (asynchronous code)
-    ∷ (not (asynchronous code) && not (bitOf w 8))
+    ∷ (not (asynchronous code) && not cm)
     ∷ []
+
+unfoldable pub tests : ℕ → List Bool
+tests w = testsOf (fieldOf w 5 0) (bitOf w 24) (bitOf w 6) (bitOf (fieldOf w 3 1) 2) (bitOf w 19) (bitOf w 8)
 
 abbrev pub holdsIn : ℕ → ℕ → Bool
 holdsIn w t = getD (tests w) t false
