@@ -11,7 +11,7 @@
 
 /* ---- rows and replies */
 
-enum { NUMBERS = 256, ANSWERS = 2048, STATE = 48, END = 48 };
+enum { NUMBERS = 256, ANSWERS = 2048, RECORD = 16, STATE = 48, END = 48 };
 
 struct row {
     size_t count;
@@ -52,31 +52,20 @@ static bool numbers(struct row *row, const char *line, size_t length)
     return true;
 }
 
-/* The largest number of a kind: a flag (f), one of ten transfers (t), 8 bits (b), 32 bits (w), 64 bits (d). */
-static uint64_t largest(char kind)
+/* Whether a row has every place before `to`, and from `from` on numbers of 32 bits there. */
+static bool are_words(const struct row *row, size_t from, size_t to)
 {
-    switch (kind) {
-    case 'f': return 1;
-    case 't': return 9;
-    case 'b': return 0xff;
-    case 'w': return 0xffffffff;
-    case 'd': return UINT64_MAX;
-    default: return 0;
-    }
-}
-
-/* Whether a row has the numbers of a shape from a place on. */
-static bool begins(const struct row *row, size_t from, const char *shape)
-{
-    for (size_t i = 0; shape[i] != '\0'; i++) {
-        if (from + i >= row->count || row->number[from + i] > largest(shape[i])) return false;
+    if (to > row->count) return false;
+    for (size_t i = from; i < to; i++) {
+        if (row->number[i] >> 32 != 0) return false;
     }
     return true;
 }
 
-static bool shaped(const struct row *row, size_t from, const char *shape)
+/* Whether a row is so many words. */
+static bool is_words(const struct row *row, size_t count)
 {
-    return begins(row, from, shape) && row->count == from + strlen(shape);
+    return row->count == count && are_words(row, 0, count);
 }
 
 static uint32_t word(const struct row *row, size_t at)
@@ -122,61 +111,40 @@ static void with_number(struct reply *reply, uint32_t number, const void *place,
 
 /* ---- records and states in rows */
 
-/* The fields of each kind, by the largest number that a row may have there. */
-static const char *const LONG[] = {"wf",     "ffwf",           "wffwwwwwwf", "wffwwwwwf", "ffwwwfwf", "ffw",  "wfw",     "ffwf",
-                                   "fwfffw", "ffwfwffwfffffw", "wf",         "fff",       "fff",      "fwfw", "fwwwwwwf"};
-static const char *const SHORT[] = {"wf", "ffwf", "wffwwwwwwf", "wffwwwwwf", "ffwwwfwf", "ffwfw", "wfw", "ffwf", "ffffw", "ffwfwfwffffw"};
-enum { LONG_KINDS = sizeof LONG / sizeof *LONG, SHORT_KINDS = sizeof SHORT / sizeof *SHORT };
-
-static bool words_of(const struct row *row, size_t from, const char *const *kinds, size_t count, uint32_t *kind, uint32_t *fields)
+/* Some words of a row as they lie in a struct of as many. */
+static void words_of(const struct row *row, size_t from, void *place, size_t size)
 {
-    if (from >= row->count || row->number[from] >= count) return false;
-    const char *shape = kinds[row->number[from]];
-    if (!shaped(row, from + 1, shape)) return false;
-    *kind = word(row, from);
-    for (size_t i = 0; i < 15; i++) fields[i] = i < strlen(shape) ? word(row, from + 1 + i) : 0;
-    return true;
+    for (size_t i = 0; i < size / sizeof(uint32_t); i++) {
+        uint32_t each = word(row, from + i);
+        memcpy((char *)place + i * sizeof each, &each, sizeof each);
+    }
 }
 
-static bool record_of(const struct row *row, size_t from, struct knucklepin_record *record)
+static struct knucklepin_record record_of(const struct row *row, size_t from)
 {
-    return words_of(row, from, LONG, LONG_KINDS, &record->kind, record->fields);
+    struct knucklepin_record record;
+    words_of(row, from, &record, sizeof record);
+    return record;
 }
 
-static bool short_record_of(const struct row *row, size_t from, struct knucklepin_short_record *record)
+static struct knucklepin_short_record short_record_of(const struct row *row, size_t from)
 {
-    return words_of(row, from, SHORT, SHORT_KINDS, &record->kind, record->fields);
+    struct knucklepin_short_record record;
+    words_of(row, from, &record, sizeof record);
+    return record;
 }
 
-static void with_words(struct reply *reply, const char *const *kinds, size_t count, uint32_t kind, const uint32_t *fields)
+static void with_sixteen(struct reply *reply, const void *place)
 {
-    with(reply, kind);
-    size_t length = kind < count ? strlen(kinds[kind]) : 0;
-    for (size_t i = 0; i < length; i++) with(reply, fields[i]);
-    with_zeros(reply, fields + length, (15 - length) * sizeof *fields);
-}
-
-static void with_record(struct reply *reply, const struct knucklepin_record *record)
-{
-    with_words(reply, LONG, LONG_KINDS, record->kind, record->fields);
-}
-
-static void with_short_record(struct reply *reply, const struct knucklepin_short_record *record)
-{
-    with_words(reply, SHORT, SHORT_KINDS, record->kind, record->fields);
-}
-
-static bool is_state(const struct row *row, size_t from)
-{
-    return begins(row, from, "wwwwwwwwwwwwwwwwwwwwwwwwwwwwwwwwwwwwwwwwwwwwwfff");
+    uint32_t words[16];
+    memcpy(words, place, sizeof words);
+    for (size_t i = 0; i < 16; i++) with(reply, words[i]);
 }
 
 static struct knucklepin_state state_of(const struct row *row, size_t from)
 {
-    uint32_t words[STATE];
-    for (size_t i = 0; i < STATE; i++) words[i] = word(row, from + i);
     struct knucklepin_state state;
-    memcpy(&state, words, sizeof state);
+    words_of(row, from, &state, sizeof state);
     return state;
 }
 
@@ -198,7 +166,7 @@ static void with_changes(struct reply *reply, struct row *row, size_t from, cons
 
 static bool read_row(struct row *row, struct reply *reply)
 {
-    if (!shaped(row, 0, "fwd")) return false;
+    if (row->count != 3 || !are_words(row, 0, 2)) return false;
     struct knucklepin_record record;
     struct knucklepin_editions editions;
     UNWRITTEN(record);
@@ -210,7 +178,7 @@ static bool read_row(struct row *row, struct reply *reply)
         return true;
     }
     with(reply, 0);
-    with_record(reply, &record);
+    with_sixteen(reply, &record);
     with_zeros(reply, &editions, sizeof editions);
     return true;
 }
@@ -234,18 +202,18 @@ static uint32_t written(struct reply *reply, uint32_t origin, uint32_t edition, 
 
 static bool write_row(struct row *row, struct reply *reply)
 {
-    struct knucklepin_record record;
+    if (!is_words(row, 2 + RECORD)) return false;
+    const struct knucklepin_record record = record_of(row, 2);
     struct knucklepin_esr esr;
-    if (!begins(row, 0, "fw") || !record_of(row, 2, &record)) return false;
     if (written(reply, word(row, 0), word(row, 1), &record, &esr) == KNUCKLEPIN_TAKEN) with(reply, esr.word);
     return true;
 }
 
 static bool carry_row(struct row *row, struct reply *reply)
 {
-    struct knucklepin_record record;
+    if (!is_words(row, 3 + RECORD)) return false;
+    const struct knucklepin_record record = record_of(row, 3);
     struct knucklepin_esr esr;
-    if (!begins(row, 0, "fww") || !record_of(row, 3, &record)) return false;
     if (written(reply, word(row, 0), word(row, 1), &record, &esr) != KNUCKLEPIN_TAKEN) return true;
     struct row next = {3, {row->number[0], row->number[2], esr.word}};
     return read_row(&next, reply);
@@ -253,7 +221,7 @@ static bool carry_row(struct row *row, struct reply *reply)
 
 static bool again_row(struct row *row, struct reply *reply)
 {
-    if (!shaped(row, 0, "fwd")) return false;
+    if (row->count != 3 || !are_words(row, 0, 2)) return false;
     struct knucklepin_record record;
     struct knucklepin_editions editions;
     UNWRITTEN(record);
@@ -288,7 +256,7 @@ static bool trapped(struct reply *reply, uint32_t origin, uint32_t edition, cons
     }
     const struct knucklepin_known known = trap.known;
     const struct knucklepin_addresses addresses = trap.addresses;
-    with_record(reply, &trap.syndrome);
+    with_sixteen(reply, &trap.syndrome);
     with(reply, known.virtual_known);
     if (known.virtual_known != 0)
         with(reply, addresses.virtual_address);
@@ -311,7 +279,7 @@ static bool trapped(struct reply *reply, uint32_t origin, uint32_t edition, cons
 
 static bool trap_row(struct row *row, struct reply *reply)
 {
-    if (!shaped(row, 0, "fwddd")) return false;
+    if (row->count != 5 || !are_words(row, 0, 2)) return false;
     with(reply, 0);
     trapped(reply, word(row, 0), word(row, 1), row->number + 2);
     return true;
@@ -319,7 +287,7 @@ static bool trap_row(struct row *row, struct reply *reply)
 
 static bool both_row(struct row *row, struct reply *reply)
 {
-    if (!shaped(row, 0, "fwwddd")) return false;
+    if (row->count != 6 || !are_words(row, 0, 3)) return false;
     with(reply, 0);
     if (trapped(reply, word(row, 0), word(row, 1), row->number + 3)) trapped(reply, word(row, 0), word(row, 2), row->number + 3);
     return true;
@@ -327,7 +295,7 @@ static bool both_row(struct row *row, struct reply *reply)
 
 static bool hread_row(struct row *row, struct reply *reply)
 {
-    if (!shaped(row, 0, "ww")) return false;
+    if (!is_words(row, 2)) return false;
     struct knucklepin_short_record record;
     struct knucklepin_editions editions;
     UNWRITTEN(record);
@@ -339,7 +307,7 @@ static bool hread_row(struct row *row, struct reply *reply)
         return true;
     }
     with(reply, 0);
-    with_short_record(reply, &record);
+    with_sixteen(reply, &record);
     with_zeros(reply, &editions, sizeof editions);
     return true;
 }
@@ -362,18 +330,18 @@ static uint32_t short_written(struct reply *reply, uint32_t edition, const struc
 
 static bool hwrite_row(struct row *row, struct reply *reply)
 {
-    struct knucklepin_short_record record;
+    if (!is_words(row, 1 + RECORD)) return false;
+    const struct knucklepin_short_record record = short_record_of(row, 1);
     struct knucklepin_hsr hsr;
-    if (!begins(row, 0, "w") || !short_record_of(row, 1, &record)) return false;
     if (short_written(reply, word(row, 0), &record, &hsr) == KNUCKLEPIN_TAKEN) with(reply, hsr.word);
     return true;
 }
 
 static bool hcarry_row(struct row *row, struct reply *reply)
 {
-    struct knucklepin_short_record record;
+    if (!is_words(row, 2 + RECORD)) return false;
+    const struct knucklepin_short_record record = short_record_of(row, 2);
     struct knucklepin_hsr hsr;
-    if (!begins(row, 0, "ww") || !short_record_of(row, 2, &record)) return false;
     if (short_written(reply, word(row, 0), &record, &hsr) != KNUCKLEPIN_TAKEN) return true;
     struct row next = {2, {row->number[1], hsr.word}};
     return hread_row(&next, reply);
@@ -381,7 +349,7 @@ static bool hcarry_row(struct row *row, struct reply *reply)
 
 static bool hagain_row(struct row *row, struct reply *reply)
 {
-    if (!shaped(row, 0, "ww")) return false;
+    if (!is_words(row, 2)) return false;
     struct knucklepin_short_record record;
     struct knucklepin_editions editions;
     UNWRITTEN(record);
@@ -398,30 +366,26 @@ static bool hagain_row(struct row *row, struct reply *reply)
 
 static bool widen_row(struct row *row, struct reply *reply)
 {
-    struct knucklepin_short_record from;
+    if (!is_words(row, 1 + RECORD)) return false;
+    const struct knucklepin_short_record from = short_record_of(row, 1);
     struct knucklepin_record to;
-    if (!begins(row, 0, "w") || !short_record_of(row, 1, &from)) return false;
     UNWRITTEN(to);
     uint32_t number = knucklepin_widen(word(row, 0), &from, &to);
     if (number != KNUCKLEPIN_TAKEN) {
         with_number(reply, number, &to, sizeof to);
     } else {
         with(reply, 0);
-        with_record(reply, &to);
+        with_sixteen(reply, &to);
     }
     return true;
 }
 
 /* ---- guest states */
 
-/* The injection that stands in six numbers, as a row may have one. */
+/* Whether an injection stands in six numbers: its address has 64 bits. */
 static bool is_injection(const struct row *row, size_t from)
 {
-    if (!begins(row, from, "b") || row->number[from] > 4) return false;
-    if (row->number[from] < 3) return begins(row, from, "b00000");
-    if (!begins(row, from, row->number[from] == 3 ? "bbbd00" : "bbbdfb") || row->number[from + 1] > 4) return false;
-    bool levels = row->number[from + 1] >= 1 && row->number[from + 1] <= 3;
-    return levels || row->number[from + 2] == 0;
+    return are_words(row, from, from + 3) && are_words(row, from + 4, from + 6);
 }
 
 static uint32_t inject(const struct row *row, size_t from, struct knucklepin_state *state)
@@ -432,7 +396,7 @@ static uint32_t inject(const struct row *row, size_t from, struct knucklepin_sta
 
 static bool inject_row(struct row *row, struct reply *reply)
 {
-    if (!is_injection(row, 0) || !is_state(row, 6) || row->count != 6 + STATE) return false;
+    if (row->count != 6 + STATE || !is_injection(row, 0) || !are_words(row, 6, 6 + STATE)) return false;
     struct knucklepin_state state = state_of(row, 6);
     with(reply, inject(row, 0, &state));
     with_changes(reply, row, 6, &state);
@@ -441,7 +405,7 @@ static bool inject_row(struct row *row, struct reply *reply)
 
 static bool held_row(struct row *row, struct reply *reply)
 {
-    if (!shaped(row, 0, "ww")) return false;
+    if (!is_words(row, 2)) return false;
     uint32_t number = knucklepin_held_in(word(row, 0), word(row, 1));
     with(reply, number != KNUCKLEPIN_NOWHERE);
     if (number != KNUCKLEPIN_NOWHERE) with(reply, number);
@@ -450,7 +414,7 @@ static bool held_row(struct row *row, struct reply *reply)
 
 static bool spsr_row(struct row *row, struct reply *reply)
 {
-    if (!shaped(row, 0, "fffw")) return false;
+    if (!is_words(row, 4)) return false;
     uint32_t status;
     UNWRITTEN(status);
     uint32_t number = knucklepin_from_spsr(word(row, 0), word(row, 1), word(row, 2), word(row, 3), &status);
@@ -465,9 +429,9 @@ static bool spsr_row(struct row *row, struct reply *reply)
 
 static bool finish_row(struct row *row, struct reply *reply)
 {
-    struct knucklepin_record record;
-    if (!begins(row, 0, "w") || !is_state(row, 1) || !record_of(row, 1 + STATE, &record)) return false;
+    if (!is_words(row, 1 + STATE + RECORD)) return false;
     struct knucklepin_state state = state_of(row, 1);
+    const struct knucklepin_record record = record_of(row, 1 + STATE);
     uint32_t given;
     UNWRITTEN(given);
     uint32_t number = knucklepin_finish(&state, &record, word(row, 0), &given);
@@ -495,14 +459,14 @@ static void with_correction(struct reply *reply, uint32_t correction)
 /* The calls of a run are made on the state in the row's first 48 numbers. */
 static bool run_row(struct row *row, struct reply *reply)
 {
-    if (!is_state(row, 0) || row->count == STATE) return false;
+    if (!are_words(row, 0, STATE) || row->count == STATE) return false;
     uint32_t queue = KNUCKLEPIN_EMPTY;
     size_t at = STATE;
     for (int calls = 0; at < row->count; calls++) {
         if (calls == 24) return false;
         uint64_t call = row->number[at++];
         if (call == 0) {
-            if (!begins(row, at, "b") || row->number[at] > 2) return false;
+            if (!are_words(row, at, at + 1) || word(row, at) > 2) return false;
             queue = knucklepin_raise(queue, word(row, at) + KNUCKLEPIN_ABORT);
             at += 1;
             with(reply, 0);
@@ -514,9 +478,8 @@ static bool run_row(struct row *row, struct reply *reply)
                 if (at >= row->count) return false;
                 uint64_t place = row->number[at++];
                 if (place == END) break;
-                if (place > END || at >= row->count) return false;
+                if (place > END || !are_words(row, at, at + 1)) return false;
                 row->number[place] = row->number[at++];
-                if (!is_state(row, 0)) return false;
             }
             struct knucklepin_pending pending = {queue, 0xa5a5a5a5};
             state = state_of(row, 0);
@@ -524,14 +487,14 @@ static bool run_row(struct row *row, struct reply *reply)
             with(reply, pending.delivered);
             queue = pending.queue;
         } else if (call == 2) {
-            if (!is_injection(row, at)) return false;
+            if (!is_injection(row, at) || word(row, at) > KNUCKLEPIN_DATA_ABORT) return false;
             state = state_of(row, 0);
             uint32_t correction = knucklepin_injection_correction(&state, word(row, at));
             with(reply, inject(row, at, &state));
             with_correction(reply, correction);
             at += 6;
         } else if (call == 3) {
-            if (!begins(row, at, "fw")) return false;
+            if (!are_words(row, at, at + 2) || word(row, at) > 1) return false;
             state = state_of(row, 0);
             uint32_t size = word(row, at + 1);
             with(reply, knucklepin_resume(&state, row->number[at] != 0 ? 0 - size : size));
@@ -591,7 +554,7 @@ static void with_transfer(struct reply *reply, const struct knucklepin_access *a
 
 static bool decode_row(struct row *row, struct reply *reply)
 {
-    if (!shaped(row, 0, "w")) return false;
+    if (!is_words(row, 1)) return false;
     struct knucklepin_state state = {.status = KNUCKLEPIN_MODE_USR};
     struct knucklepin_access access;
     struct knucklepin_list registers;
@@ -614,7 +577,7 @@ static bool decode_row(struct row *row, struct reply *reply)
 
 static bool access_row(struct row *row, struct reply *reply)
 {
-    if (!begins(row, 0, "w") || !is_state(row, 1) || row->count != 1 + STATE) return false;
+    if (!is_words(row, 1 + STATE)) return false;
     struct knucklepin_state state = state_of(row, 1);
     struct knucklepin_access access;
     struct knucklepin_list registers;
@@ -633,7 +596,7 @@ static bool access_row(struct row *row, struct reply *reply)
     /* A row has the change modulo 2^64: it is taken away where U is 0. */
     uint32_t less = 0 - access.change;
     with(reply, access.u != 0 ? access.change : 0 - (uint64_t)less);
-    for (size_t i = 0; i < 16; i++) with(reply, registers.word[i]);
+    with_sixteen(reply, &registers);
     with_transfer(reply, &access);
     return true;
 }
@@ -642,17 +605,17 @@ static bool access_row(struct row *row, struct reply *reply)
 
 static bool passes_row(struct row *row, struct reply *reply)
 {
-    struct knucklepin_record record;
-    if (!begins(row, 0, "w") || !record_of(row, 1, &record)) return false;
+    if (!is_words(row, 1 + RECORD)) return false;
+    const struct knucklepin_record record = record_of(row, 1);
     with(reply, knucklepin_passes(word(row, 0), &record));
     return true;
 }
 
 static bool step_row(struct row *row, struct reply *reply)
 {
-    struct knucklepin_record record;
-    if (!is_state(row, 0) || !record_of(row, STATE, &record)) return false;
+    if (!is_words(row, STATE + RECORD)) return false;
     struct knucklepin_state state = state_of(row, 0);
+    const struct knucklepin_record record = record_of(row, STATE);
     with(reply, knucklepin_step_over(&state, &record));
     with_changes(reply, row, 0, &state);
     return true;
@@ -661,9 +624,9 @@ static bool step_row(struct row *row, struct reply *reply)
 /* A row tells how many registers a write hands out: one of MCR, two of MCRR. */
 static bool copro_row(struct row *row, struct reply *reply)
 {
-    struct knucklepin_record record;
-    if (!begins(row, 0, "ww") || !is_state(row, 2) || !record_of(row, 2 + STATE, &record)) return false;
+    if (!is_words(row, 2 + STATE + RECORD)) return false;
     struct knucklepin_state state = state_of(row, 2);
+    const struct knucklepin_record record = record_of(row, 2 + STATE);
     struct knucklepin_pair given;
     UNWRITTEN(given);
     uint32_t number = knucklepin_coprocessor_finish(&state, &record, word(row, 0), word(row, 1), &given);
@@ -679,19 +642,19 @@ static bool copro_row(struct row *row, struct reply *reply)
 
 static bool perform_row(struct row *row, struct reply *reply)
 {
-    if (!begins(row, 0, "wwwwwwwwwwwwwwwww") || !is_state(row, 17) || row->count != 17 + STATE) return false;
+    if (!is_words(row, 17 + STATE)) return false;
     struct knucklepin_state state = state_of(row, 17);
     struct knucklepin_list values, addresses, given;
     struct knucklepin_transfer transfer;
-    for (size_t i = 0; i < 16; i++) values.word[i] = word(row, 1 + i);
+    words_of(row, 1, &values, sizeof values);
     UNWRITTEN(transfer);
     UNWRITTEN(addresses);
     UNWRITTEN(given);
     with(reply, knucklepin_a32_finish(&state, word(row, 0), &values, &transfer, &addresses, &given));
     with(reply, transfer.store);
     with(reply, transfer.count);
-    for (size_t i = 0; i < 16; i++) with(reply, addresses.word[i]);
-    for (size_t i = 0; i < 16; i++) with(reply, given.word[i]);
+    with_sixteen(reply, &addresses);
+    with_sixteen(reply, &given);
     with_changes(reply, row, 17, &state);
     return true;
 }

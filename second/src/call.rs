@@ -178,31 +178,31 @@ impl Call {
         let numbers = words.map(number).collect::<Option<Vec<u64>>>()?;
         match (name, numbers.as_slice()) {
             (b"read", &[origin, edition, word]) => {
-                let origin = Origin::from_number(origin)?;
+                let origin = Origin::from_number(narrow(origin)?);
                 Some(Call::Read { origin, edition: narrow(edition)?, word })
             }
             (b"write", [origin, edition, record @ ..]) => Some(Call::Write {
-                origin: Origin::from_number(*origin)?,
+                origin: Origin::from_number(narrow(*origin)?),
                 edition: narrow(*edition)?,
-                record: Record::from_row(&LONG, record)?,
+                record: Record::from_words(&LONG, record)?,
             }),
             (b"carry", [origin, writer, reader, record @ ..]) => Some(Call::Carry {
-                origin: Origin::from_number(*origin)?,
+                origin: Origin::from_number(narrow(*origin)?),
                 writer: narrow(*writer)?,
                 reader: narrow(*reader)?,
-                record: Record::from_row(&LONG, record)?,
+                record: Record::from_words(&LONG, record)?,
             }),
             (b"again", &[origin, edition, word]) => {
-                let origin = Origin::from_number(origin)?;
+                let origin = Origin::from_number(narrow(origin)?);
                 Some(Call::Again { origin, edition: narrow(edition)?, word })
             }
             (b"trap", &[origin, edition, esr, far, hpfar]) => {
-                let origin = Origin::from_number(origin)?;
+                let origin = Origin::from_number(narrow(origin)?);
                 let registers = Registers { esr, far, hpfar };
                 Some(Call::Trap { origin, edition: narrow(edition)?, registers })
             }
             (b"both", &[origin, first, second, esr, far, hpfar]) => {
-                let origin = Origin::from_number(origin)?;
+                let origin = Origin::from_number(narrow(origin)?);
                 let editions = [narrow(first)?, narrow(second)?];
                 Some(Call::Both { origin, editions, registers: Registers { esr, far, hpfar } })
             }
@@ -210,13 +210,13 @@ impl Call {
                 Some(Call::ShortRead { edition: narrow(edition)?, word: narrow(word)? })
             }
             (b"hwrite", [edition, record @ ..]) => {
-                let record = Record::from_row(&SHORT, record)?;
+                let record = Record::from_words(&SHORT, record)?;
                 Some(Call::ShortWrite { edition: narrow(*edition)?, record })
             }
             (b"hcarry", [writer, reader, record @ ..]) => Some(Call::ShortCarry {
                 writer: narrow(*writer)?,
                 reader: narrow(*reader)?,
-                record: Record::from_row(&SHORT, record)?,
+                record: Record::from_words(&SHORT, record)?,
             }),
             (b"hagain", &[edition, word]) => {
                 Some(Call::ShortAgain { edition: narrow(edition)?, word: narrow(word)? })
@@ -225,7 +225,7 @@ impl Call {
                 Some(Call::Held { mode: narrow(mode)?, register: narrow(register)? })
             }
             (b"widen", [mode, record @ ..]) => {
-                let record = Record::from_row(&SHORT, record)?;
+                let record = Record::from_words(&SHORT, record)?;
                 Some(Call::Widen { mode: narrow(*mode)?, record })
             }
             (b"inject" | b"lent", row) => {
@@ -234,8 +234,9 @@ impl Call {
                 let state = State::from_numbers(state)?;
                 Some(Call::Inject { lent: name == b"lent", injection, state })
             }
-            (b"spsr", &[pan @ (0 | 1), ssbs @ (0 | 1), dit @ (0 | 1), word]) => {
-                let marks = Marks { pan: pan == 1, ssbs: ssbs == 1, dit: dit == 1 };
+            (b"spsr", &[pan, ssbs, dit, word]) => {
+                let mark = |number| Some(narrow(number)? != 0);
+                let marks = Marks { pan: mark(pan)?, ssbs: mark(ssbs)?, dit: mark(dit)? };
                 Some(Call::Spsr { marks, word: narrow(word)? })
             }
             (b"finish", [value, rest @ ..]) => {
@@ -243,7 +244,7 @@ impl Call {
                 Some(Call::Finish {
                     value: narrow(*value)?,
                     state: State::from_numbers(state)?,
-                    record: Record::from_row(&LONG, record)?,
+                    record: Record::from_words(&LONG, record)?,
                 })
             }
             (b"run", row) => Some(Call::Run { run: Run::from_row(row)? }),
@@ -254,14 +255,14 @@ impl Call {
                 Some(Call::Describe { word: narrow(*word)?, state })
             }
             (b"passes", [status, record @ ..]) => {
-                let record = Record::from_row(&LONG, record)?;
+                let record = Record::from_words(&LONG, record)?;
                 Some(Call::Passes { status: narrow(*status)?, record })
             }
             (b"step", rest) => {
                 let (state, record) = rest.split_at_checked(48)?;
                 Some(Call::Step {
                     state: State::from_numbers(state)?,
-                    record: Record::from_row(&LONG, record)?,
+                    record: Record::from_words(&LONG, record)?,
                 })
             }
             (b"copro", &[first, second, ref rest @ ..]) => {
@@ -269,7 +270,7 @@ impl Call {
                 Some(Call::Coprocess {
                     values: [narrow(first)?, narrow(second)?],
                     state: State::from_numbers(state)?,
-                    record: Record::from_row(&LONG, record)?,
+                    record: Record::from_words(&LONG, record)?,
                 })
             }
             (b"perform", [word, rest @ ..]) => {
@@ -293,10 +294,10 @@ impl Call {
                 ("read", row![origin.number(), *edition, *word])
             }
             Call::Write { origin, edition, record } => {
-                ("write", [row![origin.number(), *edition], record.row()].concat())
+                ("write", [row![origin.number(), *edition], record.words()].concat())
             }
             Call::Carry { origin, writer, reader, record } => {
-                ("carry", [row![origin.number(), *writer, *reader], record.row()].concat())
+                ("carry", [row![origin.number(), *writer, *reader], record.words()].concat())
             }
             Call::Again { origin, edition, word } => {
                 ("again", row![origin.number(), *edition, *word])
@@ -310,14 +311,14 @@ impl Call {
             }
             Call::ShortRead { edition, word } => ("hread", row![*edition, *word]),
             Call::ShortWrite { edition, record } => {
-                ("hwrite", [row![*edition], record.row()].concat())
+                ("hwrite", [row![*edition], record.words()].concat())
             }
             Call::ShortCarry { writer, reader, record } => {
-                ("hcarry", [row![*writer, *reader], record.row()].concat())
+                ("hcarry", [row![*writer, *reader], record.words()].concat())
             }
             Call::ShortAgain { edition, word } => ("hagain", row![*edition, *word]),
             Call::Held { mode, register } => ("held", row![*mode, *register]),
-            Call::Widen { mode, record } => ("widen", [row![*mode], record.row()].concat()),
+            Call::Widen { mode, record } => ("widen", [row![*mode], record.words()].concat()),
             Call::Inject { lent, injection, state } => {
                 let name = if *lent { "lent" } else { "inject" };
                 (name, [injection_row(injection), state.numbers()].concat())
@@ -326,16 +327,16 @@ impl Call {
                 ("spsr", row![*pan, *ssbs, *dit, *word])
             }
             Call::Finish { value, state, record } => {
-                ("finish", [row![*value], state.numbers(), record.row()].concat())
+                ("finish", [row![*value], state.numbers(), record.words()].concat())
             }
             Call::Run { run } => ("run", run.row()),
             Call::Decode { word } => ("decode", row![*word]),
             Call::Encode { fields } => ("encode", fields.row()),
             Call::Describe { word, state } => ("access", [row![*word], state.numbers()].concat()),
-            Call::Passes { status, record } => ("passes", [row![*status], record.row()].concat()),
-            Call::Step { state, record } => ("step", [state.numbers(), record.row()].concat()),
+            Call::Passes { status, record } => ("passes", [row![*status], record.words()].concat()),
+            Call::Step { state, record } => ("step", [state.numbers(), record.words()].concat()),
             Call::Coprocess { values: [first, second], state, record } => {
-                ("copro", [row![*first, *second], state.numbers(), record.row()].concat())
+                ("copro", [row![*first, *second], state.numbers(), record.words()].concat())
             }
             Call::Access { word, values, state } => {
                 let values = values.iter().map(|&value| value.into()).collect();
@@ -394,7 +395,7 @@ impl Call {
         match self {
             Call::Read { origin, edition, word } => {
                 let answer = read(catalogues.long(*origin), *edition, *word);
-                answered(answer.map(|record| record.row()))
+                answered(answer.map(|record| record.words()))
             }
             Call::Write { origin, edition, record } => {
                 let answer = write(catalogues.long(*origin), *edition, record);
@@ -416,7 +417,7 @@ impl Call {
             }
             Call::ShortRead { edition, word } => {
                 let answer = read(short, *edition, u64::from(*word));
-                answered(answer.map(|record| record.row()))
+                answered(answer.map(|record| record.words()))
             }
             Call::ShortWrite { edition, record } => {
                 answered(write(short, *edition, record).map(|word| row![word]))
@@ -430,7 +431,7 @@ impl Call {
                 }
             }
             Call::Widen { mode, record } => {
-                answered(widen(short, aarch32, *mode, record).map(|record| record.row()))
+                answered(widen(short, aarch32, *mode, record).map(|record| record.words()))
             }
             Call::Inject { injection, state, .. } => match inject(state, injection) {
                 Ok(after) => [row![0u8], state.changes_to(&after)].concat(),
@@ -592,8 +593,9 @@ fn answered(answer: Result<Vec<u64>, Refusal>) -> Vec<u64> {
 /// The writer's refusal, or 0 and what the reader answers.
 fn carried(catalogue: &Catalogue, writer: u32, reader: u32, record: &Record) -> Vec<u64> {
     answered(
-        write(catalogue, writer, record)
-            .map(|word| answered(read(catalogue, reader, word.into()).map(|record| record.row()))),
+        write(catalogue, writer, record).map(|word| {
+            answered(read(catalogue, reader, word.into()).map(|record| record.words()))
+        }),
     )
 }
 
@@ -628,7 +630,7 @@ fn trap_row(trap: &Trap) -> Vec<u64> {
         Intermediate::Page(address) => row![1u8, address],
         Intermediate::Byte(address) => row![2u8, address],
     };
-    [trap.record.row(), virtual_address, intermediate].concat()
+    [trap.record.words(), virtual_address, intermediate].concat()
 }
 
 /// Kind, fault, level, address, write and domain. What an injection or fault
@@ -659,32 +661,44 @@ fn fault_numbers(fault: Fault) -> [u8; 2] {
     }
 }
 
+/// The injection of six numbers, each but the address of 32 bits. A number that is no
+/// injection's or no fault's stands for a fault that can't be written.
 pub fn injection_of(numbers: [u64; 6]) -> Option<Injection> {
-    match numbers {
-        [0, 0, 0, 0, 0, 0] => Some(Injection::UndefinedAt),
-        [1, 0, 0, 0, 0, 0] => Some(Injection::UndefinedAfter),
-        [2, 0, 0, 0, 0, 0] => Some(Injection::SupervisorCall),
-        [3, fault, level, address, 0, 0] => {
-            Some(Injection::PrefetchAbort { fault: fault_of(fault, level)?, address })
-        }
-        [4, fault, level, address, write @ (0 | 1), domain] => {
-            let fault = fault_of(fault, level)?;
-            let domain = u8::try_from(domain).ok()?;
-            Some(Injection::DataAbort { fault, address, write: write == 1, domain })
-        }
-        _ => None,
-    }
+    let [kind, fault, level, address, write, domain] = numbers;
+    let [kind, fault, level] = [narrow(kind)?, narrow(fault)?, narrow(level)?];
+    let [write, domain] = [narrow(write)?, narrow(domain)?];
+    Some(match kind {
+        0 => Injection::UndefinedAt,
+        1 => Injection::UndefinedAfter,
+        2 => Injection::SupervisorCall,
+        3 => Injection::PrefetchAbort { fault: fault_of(fault, level), address },
+        4 => Injection::DataAbort {
+            fault: fault_of(fault, level),
+            address,
+            write: write != 0,
+            domain: byte(domain),
+        },
+        _ => Injection::PrefetchAbort { fault: UNWRITABLE, address },
+    })
 }
 
-fn fault_of(fault: u64, level: u64) -> Option<Fault> {
-    let level = u8::try_from(level).ok()?;
-    match (fault, level) {
-        (0, 0) => Some(Fault::External),
-        (1, _) => Some(Fault::Translation(level)),
-        (2, _) => Some(Fault::AccessFlag(level)),
-        (3, _) => Some(Fault::Permission(level)),
-        (4, 0) => Some(Fault::Alignment),
-        _ => None,
+/// No format has a fault of level 0.
+const UNWRITABLE: Fault = Fault::Translation(0);
+
+/// What is above a byte is no level and no domain, as 255 is.
+fn byte(number: u32) -> u8 {
+    u8::try_from(number).unwrap_or(u8::MAX)
+}
+
+fn fault_of(fault: u32, level: u32) -> Fault {
+    let level = byte(level);
+    match fault {
+        0 => Fault::External,
+        1 => Fault::Translation(level),
+        2 => Fault::AccessFlag(level),
+        3 => Fault::Permission(level),
+        4 => Fault::Alignment,
+        _ => UNWRITABLE,
     }
 }
 
@@ -706,38 +720,32 @@ mod tests {
             "read 0 0 +1".into(),
             "read 0 0 1g".into(),
             "read 0 100000000 0".into(),
-            "read 2 0 0".into(),
+            "read 100000000 0 0".into(),
             "read 0 0 10000000000000000".into(),
             "reads 0 0 0".into(),
             "Read 0 0 0".into(),
-            "write 0 0 0 0 2".into(),
-            "write 0 0 a 0".into(),
-            "write 0 0 0 100000000 1".into(),
-            format!("inject 0 0 0 0 1 0{state}"),
-            format!("inject 0 0 0 0 0 1{state}"),
-            format!("inject 0 1 0 0 0 0{state}"),
-            format!("inject 3 0 0 0 1 0{state}"),
-            format!("inject 3 0 0 0 0 1{state}"),
-            format!("inject 3 4 1 0 0 0{state}"),
-            format!("inject 3 1 100 0 0 0{state}"),
-            format!("inject 4 1 1 0 2 0{state}"),
-            format!("inject 4 1 1 0 0 100{state}"),
+            "write 0 0 0 0 1".into(),
+            format!("write 0 0{}", " 0".repeat(17)),
+            format!("write 0 0 0 100000000 1{}", " 0".repeat(13)),
+            format!("inject 0 0 100000000 0 0 0{state}"),
+            format!("inject 4 1 1 0 100000000 0{state}"),
             format!("inject 4 1 1 0 0{state}"),
-            format!("inject 5 0 0 0 0 0{state}"),
+            format!("inject 100000000 0 0 0 0 0{state}"),
             format!("inject 0 0 0 0 0 0{state} 0"),
-            format!("inject 0 0 0 0 0 0{} 0 0 2", " 0".repeat(45)),
+            format!("inject 0 0 0 0 0 0{} 0 0 100000000", " 0".repeat(45)),
             format!("inject 0 0 0 0 0 0{}", " 0".repeat(45)),
-            "spsr 0 2 0 10".into(),
+            "spsr 0 100000000 0 10".into(),
             "spsr 0 0 0 100000000".into(),
             "spsr 0 0 10".into(),
             format!("finish 0{state}"),
-            format!("finish 0{state} a 0"),
-            format!("finish 0{state} 0 0 1 0"),
-            format!("finish 100000000{state} 0 0 1"),
-            "finish 0 0 0 1".into(),
+            format!("finish 0{state} 0 0 1"),
+            format!("finish 0{state}{}", " 0".repeat(17)),
+            format!("finish 100000000{state}{}", " 0".repeat(16)),
+            format!("finish 0{}", " 0".repeat(16)),
             format!("run{state}"),
             format!("run{state} 0 3"),
             format!("run{state} 1 0 0"),
+            format!("run{state} 2 5 0 0 0 0 0"),
             format!("runs{state} 0 0"),
         ];
         for line in bad {
@@ -751,10 +759,13 @@ mod tests {
     fn a_call_is_parsed_back() {
         for line in [
             "read 0 7 1f",
-            "write 1 0 0 22 1",
+            &format!("write 1 0 0 22 1{}", " 0".repeat(13)),
+            &format!("write 0 0 0 0 2{}", " 0".repeat(13)),
+            &format!("write 0 0{} 1", " 0".repeat(15)),
+            &format!("hwrite 0 a 1{}", " 0".repeat(14)),
             "both 0 0 8 1 2 3",
-            "carry 1 1 2 5 1 0 f",
-            "widen 1f 0 22 0",
+            &format!("carry 1 1 2 5 1 0 f{}", " 0".repeat(12)),
+            &format!("widen 1f 0 22{}", " 0".repeat(14)),
             "spsr 1 0 1 1000010",
             &format!("inject 4 2 2 8000 1 ff{}", " 0".repeat(48)),
             &format!("run{} 0 2 1 20 90 30", " 0".repeat(48)),

@@ -118,22 +118,24 @@ const fn reads64(word: u64, answer: &'static str) -> ReadCase {
     ReadCase { origin: Origin::AArch64, edition: None, word, answer }
 }
 
+/// A word that is taken, its record, and the addresses that are known.
 struct TrapCase {
     esr: u64,
-    answer: &'static str,
+    record: &'static str,
+    addresses: &'static str,
 }
 
-const fn trap(esr: u64, answer: &'static str) -> TrapCase {
-    TrapCase { esr, answer }
+const fn trap(esr: u64, record: &'static str, addresses: &'static str) -> TrapCase {
+    TrapCase { esr, record, addresses }
 }
 
 /// The address cases, with FAR 0x8ABC and HPFAR 0x12340, for both aborts and in
 /// every edition.
 const TRAPS: [TrapCase; 4] = [
-    trap(0x9200_0005, "0 9 1 0 0 0 0 0 0 0 0 0 0 0 0 5 1 8abc 2 1234abc"),
-    trap(0x9200_0085, "0 9 1 0 0 0 0 0 0 0 0 0 0 1 0 5 1 8abc 1 1234000"),
-    trap(0x8200_0005, "0 8 1 0 0 0 0 5 1 8abc 2 1234abc"),
-    trap(0x8200_0085, "0 8 1 0 0 0 1 5 1 8abc 1 1234000"),
+    trap(0x9200_0005, "0 9 1 0 0 0 0 0 0 0 0 0 0 0 0 5", "1 8abc 2 1234abc"),
+    trap(0x9200_0085, "0 9 1 0 0 0 0 0 0 0 0 0 0 1 0 5", "1 8abc 1 1234000"),
+    trap(0x8200_0005, "0 8 1 0 0 0 0 5", "1 8abc 2 1234abc"),
+    trap(0x8200_0085, "0 8 1 0 0 0 1 5", "1 8abc 1 1234000"),
 ];
 
 /// An injection that is taken, with the state before and after it.
@@ -220,7 +222,8 @@ pub fn cases() -> Vec<Case> {
         for edition in 0..LONG.editions {
             let registers = Registers { esr: case.esr, far: 0x8abc, hpfar: 0x1_2340 };
             let call = Call::Trap { origin: Origin::AArch32, edition, registers };
-            cases.push(Case { call, answer: case.answer.into() });
+            let answer = format!("{} {}", in_words(case.record), case.addresses);
+            cases.push(Case { call, answer });
         }
     }
     cases.extend(injections().into_iter().flat_map(injected));
@@ -233,20 +236,30 @@ pub fn cases_of_origins() -> Vec<Case> {
     let mut cases: Vec<Case> = ORIGIN_READS.iter().flat_map(read).collect();
     let registers = Registers { esr: 0x9200_0005, far: 0xffff_8000_0000_8abc, hpfar: 0x1_2340 };
     for edition in 0..LONG.editions {
-        let shown = "0 9 1 0 0 0 0 0 0 0 0 0 0 0 0 5 1 ffff800000008abc 2 1234abc";
-        for (origin, answer) in [(Origin::AArch32, "8 0 0"), (Origin::AArch64, shown)] {
+        let record = in_words("0 9 1 0 0 0 0 0 0 0 0 0 0 0 0 5");
+        let shown = format!("{record} 1 ffff800000008abc 2 1234abc");
+        for (origin, answer) in [(Origin::AArch32, "8 0 0".into()), (Origin::AArch64, shown)] {
             let call = Call::Trap { origin, edition, registers };
-            cases.push(Case { call, answer: answer.into() });
+            cases.push(Case { call, answer });
         }
     }
     cases
+}
+
+/// An answer to reading with the zeros that a record's sixteen words end in.
+fn in_words(answer: &str) -> String {
+    let missing = match answer.starts_with("0 ") {
+        true => 17 - answer.split(' ').count(),
+        false => 0,
+    };
+    answer.to_string() + &" 0".repeat(missing)
 }
 
 fn read(case: &ReadCase) -> Vec<Case> {
     let mut cases = Vec::new();
     for edition in case.editions() {
         let call = Call::Read { origin: case.origin, edition, word: case.word };
-        cases.push(Case { call, answer: case.answer.into() });
+        cases.push(Case { call, answer: in_words(case.answer) });
         cases.extend(written_back(case, edition));
     }
     cases
@@ -257,13 +270,13 @@ fn written_back(case: &ReadCase, edition: u32) -> Vec<Case> {
     let Some(row) = case.answer.strip_prefix("0 ") else { return vec![] };
     let number = |word| u64::from_str_radix(word, 16).expect("a hexadecimal number");
     let row: Vec<u64> = row.split(' ').map(number).collect();
-    let record = Record::from_row(&LONG, &row).expect("a record");
+    let record = Record::of(&LONG, &row).expect("a record");
     let origin = case.origin;
     let carried = Call::Carry { origin, writer: edition, reader: edition, record: record.clone() };
     let written = Call::Write { origin, edition, record };
     vec![
         Case { call: written, answer: format!("0 {:x}", case.word) },
-        Case { call: carried, answer: format!("0 {}", case.answer) },
+        Case { call: carried, answer: format!("0 {}", in_words(case.answer)) },
     ]
 }
 

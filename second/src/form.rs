@@ -53,9 +53,9 @@ impl Field {
     }
 }
 
-/// Classes that share a layout. The fields stand in the order of a row, which
-/// shows the kind's number first, and then the class where there are several.
-/// What the layout fixes stands in every word of the kind, and in no row.
+/// Classes that share a layout. The fields stand in the order of a record's words,
+/// which show the kind's number first, and then the class where there are several.
+/// What the layout fixes stands in every syndrome of the kind, and in no record.
 #[derive(Debug, PartialEq, Eq)]
 pub struct Kind {
     pub number: u64,
@@ -194,6 +194,12 @@ impl Family {
     }
 }
 
+/// How many words a record is shown by.
+const WORDS: usize = 16;
+
+/// The kind of words that are no record's: it has no class, and its values are the words.
+static NO_KIND: Kind = Kind { number: u64::MAX, classes: &[], fixed: 0, fields: &[] };
+
 /// A syndrome by its fields. A field may be too large for its place, and the
 /// class may be one that the kind lacks: no edition has such a record.
 #[derive(Clone, Debug, PartialEq, Eq)]
@@ -226,30 +232,42 @@ impl Record {
         })
     }
 
-    /// Kind, class where the kind has several, and fields.
-    pub fn row(&self) -> Vec<u64> {
+    /// The record as sixteen words: its kind, its class where the kind has several, its
+    /// fields, and zeros. Words that are no record's come back as they were.
+    pub fn words(&self) -> Vec<u64> {
+        let kind = (*self.kind != NO_KIND).then_some(self.kind.number);
         let class = self.kind.holds_class().then_some(u64::from(self.class));
         let values = self.values.iter().map(|&value| u64::from(value));
-        [self.kind.number].into_iter().chain(class).chain(values).collect()
+        let mut words: Vec<u64> = kind.into_iter().chain(class).chain(values).collect();
+        words.resize(WORDS, 0);
+        words
     }
 
-    /// The record that a row shows, if it shows one. A field of one bit is a
-    /// flag; every other number has 32 bits.
-    pub fn from_row(form: &Form, row: &[u64]) -> Option<Record> {
-        let (number, rest) = row.split_first()?;
+    /// The record that sixteen words show. Words that are no record's stand for one that
+    /// no edition has.
+    pub fn from_words(form: &Form, words: &[u64]) -> Option<Record> {
+        let narrow = words.iter().map(|&word| u32::try_from(word).ok());
+        let values = narrow.collect::<Option<Vec<u32>>>().filter(|all| all.len() == WORDS)?;
+        let none = Record { kind: &NO_KIND, class: 0x40, values };
+        Some(Record::of(form, words).unwrap_or(none))
+    }
+
+    /// The record whose words begin with these and go on with zeros, if there is one. A
+    /// field of one bit is a flag; every other has 32 bits.
+    pub fn of(form: &Form, words: &[u64]) -> Option<Record> {
+        let (number, rest) = words.split_first()?;
         let kind = form.kinds.iter().find(|kind| kind.number == *number)?;
-        let (class, fields) = match kind.holds_class() {
-            true => rest.split_first().map(|(&class, fields)| (class, fields))?,
+        let (class, rest) = match kind.holds_class() {
+            true => rest.split_first().map(|(&class, rest)| (class, rest))?,
             false => (kind.classes[0].into(), rest),
         };
-        if fields.len() != kind.fields.len() {
-            return None;
-        }
+        let (fields, zeros) = rest.split_at_checked(kind.fields.len())?;
         let value = |(&value, field): (&u64, &Field)| match field.width() {
             1 => (value < 2).then_some(value as u32),
             _ => u32::try_from(value).ok(),
         };
         let values = fields.iter().zip(kind.fields).map(value).collect::<Option<Vec<u32>>>()?;
-        Some(Record { kind, class: u32::try_from(class).ok()?, values })
+        let record = Record { kind, class: u32::try_from(class).ok()?, values };
+        zeros.iter().all(|&word| word == 0).then_some(record)
     }
 }

@@ -55,18 +55,17 @@ impl State {
         changed.flat_map(|(place, (_, after))| [place as u64, after]).collect()
     }
 
-    /// The state that 45 words and three flags show.
+    /// The state that 48 words show: a mark is any word but 0.
     pub fn from_numbers(numbers: &[u64]) -> Option<State> {
-        let (words, marks) = numbers.split_at_checked(45)?;
-        let marks = marks.iter().map(|&number| (number < 2).then_some(number == 1));
-        let marks: Vec<bool> = marks.collect::<Option<_>>()?;
-        let [pan, ssbs, dit] = marks.try_into().ok()?;
-        let words = words.iter().map(|&number| u32::try_from(number).ok());
+        let words = numbers.iter().map(|&number| u32::try_from(number).ok());
         let words: Vec<u32> = words.collect::<Option<_>>()?;
         let (registers, rest) = words.split_at_checked(31)?;
         let registers = registers.try_into().ok()?;
+        let (rest, marks) = rest.split_at_checked(14)?;
         let [pc, status, fiq, irq, svc, abt, und, dfsr, ifsr, dfar, ifar, sctlr, vbar, ttbcr] =
             rest.try_into().ok()?;
+        let marks: [u32; 3] = marks.try_into().ok()?;
+        let [pan, ssbs, dit] = marks.map(|word| word != 0);
         Some(State {
             registers,
             pc,

@@ -26,10 +26,12 @@ impl Origin {
         self as u8
     }
 
-    pub fn from_number(number: u64) -> Option<Origin> {
-        [Origin::AArch32, Origin::AArch64]
-            .into_iter()
-            .find(|origin| u64::from(origin.number()) == number)
+    /// Every number but 0 is AArch64.
+    pub fn from_number(number: u32) -> Origin {
+        match number {
+            0 => Origin::AArch32,
+            _ => Origin::AArch64,
+        }
     }
 }
 

@@ -147,7 +147,7 @@ impl Run {
         (fits && run.states_are_states()).then_some(run)
     }
 
-    /// Whether every change leaves a state: 32 bits in a word, a flag in a mark.
+    /// Whether every change leaves a state, of 32 bits in each word.
     fn states_are_states(&self) -> bool {
         let changes = self.calls.iter().flat_map(|call| match call {
             RunCall::Step { changes } => changes.iter(),
@@ -239,7 +239,7 @@ fn first_call(numbers: &[u64]) -> Option<(RunCall, &[u64])> {
                 }
             }
         }
-        [2, kind, fault, level, address, write, domain, rest @ ..] => {
+        [2, kind @ 0..=4, fault, level, address, write, domain, rest @ ..] => {
             let injection = injection_of([*kind, *fault, *level, *address, *write, *domain])?;
             Some((RunCall::Inject(injection), rest))
         }

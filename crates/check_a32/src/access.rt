@@ -5,12 +5,11 @@ use a32::Described;
 use a32_access::Access;
 use rows::Reply;
 use rows::Row;
-use rows::rest;
+use rows::state;
 use rows::with;
-use rows::with_words;
+use rows::with_sixteen;
 use signed::Signed;
-use state_rows::is_state;
-use state_rows::state;
+use state_words::state_of;
 use std::num::wrapping_sub_u64;
 
 // A signed change modulo 2^64.
@@ -25,9 +24,11 @@ fn change_word(change: Signed) -> u64 {
 fn with_access(reply: Reply, a: Access, registers: [u32; 16]) -> Reply {
     let fields = a.fields;
     let change = a.change;
-    let place = [a.count, a.address];
-    let described = with_words(with_fields(reply, fields), &place);
-    with_words(with(described, change_word(change)), &registers)
+    let place = with(
+        with(with_fields(reply, fields), a.count as u64),
+        a.address as u64,
+    );
+    with_sixteen(with(place, change_word(change)), registers)
 }
 
 fn shown(done: Described) -> Reply {
@@ -35,14 +36,13 @@ fn shown(done: Described) -> Reply {
     let registers = done.registers;
     match answer {
         Answer::Taken(a) => with_access(rows::one(0), a, registers),
-        refusal => rows::refused(a32::number(refusal), 0, 0),
+        refusal => rows::refused(rows::no_row(), a32::number(refusal), 0, 0),
     }
 }
 
 pub fn answer(row: Row) -> Reply {
-    let before = rest(row, 1);
-    if !(rows::begins(row, b"w") & is_state(before)) {
+    if !rows::is_words(row, 49) {
         return rows::no_row();
     }
-    shown(a32::describe(state(before), rows::word(row, 0)))
+    shown(a32::describe(state_of(state(row, 1)), rows::word(row, 0)))
 }

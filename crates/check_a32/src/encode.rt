@@ -10,7 +10,7 @@ use rows::with;
 fn shown(answer: Encoded) -> Reply {
     match answer {
         Encoded::Word(word) => with(one(0), word as u64),
-        Encoded::Refused => rows::refused(19, 0, 0),
+        Encoded::Refused => rows::refused(rows::no_row(), 19, 0, 0),
     }
 }
 

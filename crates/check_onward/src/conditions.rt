@@ -1,17 +1,13 @@
 // `passes STATUS RECORD`: step::passes.
-use record_rows::Given;
+use record_of_words::record_of;
 use rows::Reply;
 use rows::Row;
-use rows::one;
-use rows::rest;
-use rows::word;
+use rows::sixteen;
 
 pub fn answer(row: Row) -> Reply {
-    if !rows::begins(row, b"w") {
+    if !rows::is_words(row, 17) {
         return rows::no_row();
     }
-    match record_rows::from_row(rest(row, 1)) {
-        Given::Record(what) => one(step::passes(word(row, 0), what) as u64),
-        Given::None => rows::no_row(),
-    }
+    let what = record_of(sixteen(row, 1));
+    rows::one(step::passes(rows::word(row, 0), what) as u64)
 }

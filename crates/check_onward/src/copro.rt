@@ -3,15 +3,17 @@ use act::Acted;
 use act::Action;
 use act::Outcome;
 use coprocessor::Answer;
-use record_rows::Given;
+use record_of_words::record_of;
 use rows::Reply;
 use rows::Row;
 use rows::one;
-use rows::rest;
+use rows::sixteen;
+use rows::state;
 use rows::with;
+use rows::with_changes;
 use rows::word;
-use state_rows::state;
-use state_rows::with_state;
+use state_words::state_of;
+use state_words::words_of;
 
 // How many registers a write hands out, and what they hold.
 fn with_given(reply: Reply, answer: Answer) -> Reply {
@@ -24,37 +26,24 @@ fn with_given(reply: Reply, answer: Answer) -> Reply {
     }
 }
 
-fn shown(before: Row, done: Acted) -> Reply {
+fn shown(before: [u32; 48], done: Acted) -> Reply {
     let outcome = done.outcome;
     let after = done.state;
     match outcome {
         Outcome::Coprocessor(answer) => {
             let given = with_given(one(coprocessor::number(answer) as u64), answer);
-            with_state(given, before, after)
+            with_changes(given, before, words_of(before, after))
         }
         _ => rows::no_row(),
     }
 }
 
-// The record of a row that begins with two values and a state.
-fn asked(row: Row) -> Given {
-    let before = rest(row, 2);
-    if !(rows::begins(row, b"ww") & state_rows::leads(before)) {
-        return Given::None;
-    }
-    record_rows::from_row(rest(before, 48))
-}
-
 pub fn answer(row: Row) -> Reply {
-    let before = rest(row, 2);
-    match asked(row) {
-        Given::Record(what) => shown(
-            before,
-            act::act(
-                state(before),
-                Action::Coprocessor(what, word(row, 0), word(row, 1)),
-            ),
-        ),
-        Given::None => rows::no_row(),
+    if !rows::is_words(row, 66) {
+        return rows::no_row();
     }
+    let before = state(row, 2);
+    let what = record_of(sixteen(row, 50));
+    let action = Action::Coprocessor(what, word(row, 0), word(row, 1));
+    shown(before, act::act(state_of(before), action))
 }

@@ -5,13 +5,13 @@ use a32_finish::Finished;
 use rows::Reply;
 use rows::Row;
 use rows::one;
-use rows::rest;
+use rows::sixteen;
+use rows::state;
 use rows::with;
-use rows::with_words;
+use rows::with_sixteen;
 use rows::word;
-use state_rows::is_state;
-use state_rows::state;
-use state_rows::with_state;
+use state_words::state_of;
+use state_words::words_of;
 
 // Whether it was a store, and how many registers it transferred.
 fn with_access(reply: Reply, stored: u64, access: Access) -> Reply {
@@ -26,11 +26,7 @@ fn with_answer(reply: Reply, answer: Answer) -> Reply {
     }
 }
 
-fn with_sixteen(reply: Reply, words: [u32; 16]) -> Reply {
-    with_words(reply, &words)
-}
-
-fn shown(before: Row, done: Finished) -> Reply {
+fn shown(before: [u32; 48], done: Finished) -> Reply {
     let outcome = done.outcome;
     let answer = outcome.answer;
     let addresses = outcome.addresses;
@@ -38,32 +34,16 @@ fn shown(before: Row, done: Finished) -> Reply {
     let after = done.state;
     let access = with_answer(one(a32_finish::number(answer) as u64), answer);
     let given = with_sixteen(with_sixteen(access, addresses), values);
-    with_state(given, before, after)
-}
-
-// The sixteen values that a row begins with.
-fn values(row: Row) -> [u32; 16] {
-    let mut all = [0u32; 16];
-    let mut i = 0;
-    while i < 16 {
-        all[i] = word(row, i);
-        i += 1;
-    }
-    all
-}
-
-// Whether a row is a word, sixteen values and a state.
-fn is_asked(row: Row) -> bool {
-    rows::begins(row, b"wwwwwwwwwwwwwwwww") & is_state(rest(row, 17))
+    rows::with_changes(given, before, words_of(before, after))
 }
 
 pub fn answer(row: Row) -> Reply {
-    if !is_asked(row) {
+    if !rows::is_words(row, 65) {
         return rows::no_row();
     }
-    let before = rest(row, 17);
+    let before = state(row, 17);
     shown(
         before,
-        a32_finish::finish(state(before), word(row, 0), values(rest(row, 1))),
+        a32_finish::finish(state_of(before), word(row, 0), sixteen(row, 1)),
     )
 }

@@ -2,36 +2,33 @@
 use act::Acted;
 use act::Action;
 use act::Outcome;
-use record_rows::Given;
+use record_of_words::record_of;
 use rows::Reply;
 use rows::Row;
 use rows::one;
-use rows::rest;
-use state_rows::state;
-use state_rows::with_state;
+use rows::sixteen;
+use rows::state;
+use rows::with_changes;
+use state_words::state_of;
+use state_words::words_of;
 
-fn shown(before: Row, done: Acted) -> Reply {
+fn shown(before: [u32; 48], done: Acted) -> Reply {
     let outcome = done.outcome;
     let after = done.state;
     match outcome {
         Outcome::SteppedOver(answer) => {
-            with_state(one(step::number(answer) as u64), before, after)
+            let number = one(step::number(answer) as u64);
+            with_changes(number, before, words_of(before, after))
         }
         _ => rows::no_row(),
     }
 }
 
-// The record of a row that begins with a state.
-fn asked(row: Row) -> Given {
-    if !state_rows::leads(row) {
-        return Given::None;
-    }
-    record_rows::from_row(rest(row, 48))
-}
-
 pub fn answer(row: Row) -> Reply {
-    match asked(row) {
-        Given::Record(what) => shown(row, act::act(state(row), Action::StepOver(what))),
-        Given::None => rows::no_row(),
+    if !rows::is_words(row, 64) {
+        return rows::no_row();
     }
+    let before = state(row, 0);
+    let what = record_of(sixteen(row, 48));
+    shown(before, act::act(state_of(before), Action::StepOver(what)))
 }

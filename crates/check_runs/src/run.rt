@@ -5,31 +5,30 @@ use act::Outcome;
 use delivery::Answer;
 use exception::Guest;
 use guest::Injection;
-use injection_rows::Asked;
+use guest_calls::injection_of;
 use pending::Kind;
 use pending::Queue;
 use rows::Reply;
 use rows::Row;
-use rows::joined;
 use rows::long;
 use rows::no_row;
-use rows::rest;
 use rows::with;
-use rows::with_number;
 use rows::word;
 use signed::Signed;
-use state_rows::leads;
-use state_rows::state;
-use state_rows::with_state;
+use state_words::state_of;
+use state_words::words_of;
 use std::num::wrapping_add_usize;
 
 // No place of a state: it ends a list of changes.
 const END: u64 = 48;
 
+// Numbers from this on have more than 32 bits.
+const WIDE: u64 = 0x1_0000_0000;
+
 // A run as far as it has been made.
 struct Run {
-    // The state as it stands now, and the calls after it.
-    row: Row,
+    // The state as it stands now.
+    words: [u32; 48],
     // Where the next call begins in the row.
     at: usize,
     queue: Queue,
@@ -40,18 +39,21 @@ struct Run {
 
 fn start(row: Row) -> Run {
     Run {
-        row,
+        words: rows::state(row, 0),
         at: 48,
         queue: pending::empty(),
         reply: no_row(),
-        good: leads(row),
+        good: rows::are_words(row, 0, 48),
     }
 }
 
-// The number that stands some places on.
-fn number(run: Run, places: usize) -> u64 {
-    let row = run.row;
+// The number that stands some places on, and its lower 32 bits.
+fn number(row: Row, run: Run, places: usize) -> u64 {
     long(row, wrapping_add_usize(run.at, places))
+}
+
+fn narrow(row: Row, run: Run, places: usize) -> u32 {
+    word(row, wrapping_add_usize(run.at, places))
 }
 
 fn skipped(run: Run, places: usize) -> Run {
@@ -67,22 +69,17 @@ fn malformed(run: Run) -> Run {
 }
 
 fn raised(run: Run, kind: Kind) -> Run {
-    let row = run.row;
     let before = run.queue;
     let reply = run.reply;
-    let queue = pending::raise(before, kind);
-    Run {
-        row,
-        at: wrapping_add_usize(run.at, 2),
-        queue,
-        reply: with(reply, 0),
-        good: run.good,
-    }
+    let mut next = skipped(run, 2);
+    next.queue = pending::raise(before, kind);
+    next.reply = with(reply, 0);
+    next
 }
 
 // `0 KIND`.
-fn raise(run: Run) -> Run {
-    match number(run, 1) {
+fn raise(row: Row, run: Run) -> Run {
+    match number(row, run, 1) {
         0 => raised(run, Kind::Abort),
         1 => raised(run, Kind::Fiq),
         2 => raised(run, Kind::Irq),
@@ -90,25 +87,33 @@ fn raise(run: Run) -> Run {
     }
 }
 
-// `PLACE VALUE`, which must leave a state.
-fn change(run: Run) -> Run {
+fn with_word(words: [u32; 48], place: u64, value: u32) -> [u32; 48] {
+    let mut next = words;
+    if place < END {
+        next[place as usize] = value;
+    }
+    next
+}
+
+// `PLACE VALUE`.
+fn change(row: Row, run: Run) -> Run {
+    let place = number(row, run, 0);
+    let words = run.words;
     let mut next = skipped(run, 2);
-    let place = number(run, 0);
-    let row = with_number(next.row, place, number(run, 1));
-    next.row = row;
-    next.good = next.good & (place < END) & leads(row);
+    next.words = with_word(words, place, narrow(row, run, 1));
+    next.good = next.good & (place < END) & (number(row, run, 1) < WIDE);
     next
 }
 
 // Changes up to their end. A row has room for fewer than 128.
-fn changes(run: Run) -> Run {
+fn changes(row: Row, run: Run) -> Run {
     let mut next = run;
     let mut turns: u32 = 128;
     while turns > 0 {
-        if number(next, 0) == END {
+        if number(row, next, 0) == END {
             return skipped(next, 1);
         }
-        next = change(next);
+        next = change(row, next);
         turns -= 1;
     }
     malformed(next)
@@ -131,13 +136,13 @@ fn name(answer: Answer) -> u64 {
 
 // A run after a call that has said something. What the call changed in the state is told, and stands in the state of the next one.
 fn left(run: Run, queue: Queue, said: Reply, after: Guest) -> Run {
-    let row = run.row;
-    let moved = with_state(no_row(), row, after);
+    let before = run.words;
+    let words = words_of(before, after);
     Run {
-        row: rows::changed(row, moved),
+        words,
         at: run.at,
         queue,
-        reply: with(joined(said, moved), END),
+        reply: with(rows::with_changes(said, before, words), END),
         good: run.good,
     }
 }
@@ -151,11 +156,11 @@ fn delivered(run: Run, outcome: delivery::Outcome, after: Guest) -> Run {
 }
 
 // `1 CHANGE .. 30`.
-fn step(run: Run) -> Run {
-    let asked = changes(skipped(run, 1));
+fn step(row: Row, run: Run) -> Run {
+    let asked = changes(row, skipped(run, 1));
     let queue = asked.queue;
-    let row = asked.row;
-    let done = act::act(state(row), Action::Deliver(queue));
+    let words = asked.words;
+    let done = act::act(state_of(words), Action::Deliver(queue));
     let outcome = done.outcome;
     let after = done.state;
     match outcome {
@@ -173,10 +178,10 @@ fn with_correction(reply: Reply, correction: Signed) -> Reply {
 }
 
 fn injected(run: Run, what: Injection) -> Run {
-    let row = run.row;
+    let words = run.words;
     let queue = run.queue;
     let reply = run.reply;
-    let before = state(row);
+    let before = state_of(words);
     let correction = guest::correction(before, what);
     let done = act::act(before, Action::Inject(what));
     let outcome = done.outcome;
@@ -185,20 +190,31 @@ fn injected(run: Run, what: Injection) -> Run {
     left(skipped(run, 7), queue, said, after)
 }
 
-// `2 KIND FAULT LEVEL ADDRESS WRITE DOMAIN`.
-fn inject(run: Run) -> Run {
-    let row = run.row;
-    match injection_rows::from_row(rest(row, wrapping_add_usize(run.at, 1))) {
-        Asked::Injection(what) => injected(run, what),
-        Asked::None => malformed(run),
+// `2 KIND FAULT LEVEL ADDRESS WRITE DOMAIN`, all but the address of 32 bits. The kind must be one: no call tells the correction of another.
+fn inject(row: Row, run: Run) -> Run {
+    let narrow_head = (number(row, run, 1) < 5) & (number(row, run, 2) < WIDE);
+    let narrow_rest = (number(row, run, 5) < WIDE) & (number(row, run, 6) < WIDE);
+    if !(narrow_head & (number(row, run, 3) < WIDE) & narrow_rest) {
+        return malformed(run);
     }
+    injected(
+        run,
+        injection_of(
+            narrow(row, run, 1),
+            narrow(row, run, 2),
+            narrow(row, run, 3),
+            number(row, run, 4),
+            narrow(row, run, 5),
+            narrow(row, run, 6),
+        ),
+    )
 }
 
 fn returned(run: Run, correction: Signed) -> Run {
-    let row = run.row;
+    let words = run.words;
     let queue = run.queue;
     let reply = run.reply;
-    let done = act::act(state(row), Action::Resume(correction));
+    let done = act::act(state_of(words), Action::Resume(correction));
     let outcome = done.outcome;
     let after = done.state;
     let said = with(reply, act::number(outcome) as u64);
@@ -206,25 +222,24 @@ fn returned(run: Run, correction: Signed) -> Run {
 }
 
 // `3 SIGN SIZE`.
-fn go_back(run: Run) -> Run {
-    let row = run.row;
-    let size = word(row, wrapping_add_usize(run.at, 2));
-    if number(run, 2) != size as u64 {
+fn go_back(row: Row, run: Run) -> Run {
+    let size = narrow(row, run, 2);
+    if number(row, run, 2) >= WIDE {
         return malformed(run);
     }
-    match number(run, 1) {
+    match number(row, run, 1) {
         0 => returned(run, Signed::Plus(size)),
         1 => returned(run, Signed::Minus(size)),
         _ => malformed(run),
     }
 }
 
-fn call(run: Run) -> Run {
-    match number(run, 0) {
-        0 => raise(run),
-        1 => step(run),
-        2 => inject(run),
-        3 => go_back(run),
+fn call(row: Row, run: Run) -> Run {
+    match number(row, run, 0) {
+        0 => raise(row, run),
+        1 => step(row, run),
+        2 => inject(row, run),
+        3 => go_back(row, run),
         _ => malformed(run),
     }
 }
@@ -238,7 +253,7 @@ pub fn answer(row: Row) -> Reply {
         if run.at >= count {
             break;
         }
-        run = call(run);
+        run = call(row, run);
         calls -= 1;
     }
     let reply = run.reply;

@@ -3,15 +3,17 @@ use act::Acted;
 use act::Action;
 use act::Outcome;
 use device::Answer;
-use record_rows::Given;
+use record_of_words::record_of;
 use rows::Reply;
 use rows::Row;
 use rows::one;
-use rows::rest;
+use rows::sixteen;
+use rows::state;
 use rows::with;
+use rows::with_changes;
 use rows::word;
-use state_rows::state;
-use state_rows::with_state;
+use state_words::state_of;
+use state_words::words_of;
 
 // Whether the access is a store, and what the device gets.
 fn with_access(reply: Reply, answer: Answer) -> Reply {
@@ -21,34 +23,26 @@ fn with_access(reply: Reply, answer: Answer) -> Reply {
     }
 }
 
-fn shown(before: Row, done: Acted) -> Reply {
+fn shown(before: [u32; 48], done: Acted) -> Reply {
     let outcome = done.outcome;
     let after = done.state;
     match outcome {
         Outcome::Finished(answer) => {
             let access = with_access(one(device::number(answer) as u64), answer);
-            with_state(access, before, after)
+            with_changes(access, before, words_of(before, after))
         }
         _ => rows::no_row(),
     }
 }
 
-// The record of a row that begins with a value and a state.
-fn asked(row: Row) -> Given {
-    let before = rest(row, 1);
-    if !(rows::begins(row, b"w") & state_rows::leads(before)) {
-        return Given::None;
-    }
-    record_rows::from_row(rest(before, 48))
-}
-
 pub fn answer(row: Row) -> Reply {
-    let before = rest(row, 1);
-    match asked(row) {
-        Given::Record(what) => shown(
-            before,
-            act::act(state(before), Action::Finish(what, word(row, 0))),
-        ),
-        Given::None => rows::no_row(),
+    if !rows::is_words(row, 65) {
+        return rows::no_row();
     }
+    let before = state(row, 1);
+    let what = record_of(sixteen(row, 49));
+    shown(
+        before,
+        act::act(state_of(before), Action::Finish(what, word(row, 0))),
+    )
 }

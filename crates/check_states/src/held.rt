@@ -14,7 +14,7 @@ fn shown(answer: Held) -> Reply {
 }
 
 pub fn answer(row: Row) -> Reply {
-    if !rows::shaped(row, b"ww") {
+    if !rows::is_words(row, 2) {
         return rows::no_row();
     }
     shown(status::held_in(word(row, 0), word(row, 1)))

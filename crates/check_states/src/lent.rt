@@ -1,17 +1,17 @@
 // `lent KIND FAULT LEVEL ADDRESS WRITE DOMAIN STATE`: monitor::inject_in_place.
 ghost use mathlib.Core.Path.{_≡_};
 ghost use Rattle.guest.specs.Inject.{injected};
+use super::inject::injection;
+use super::inject::is_asked;
 use super::inject::shown;
 use exception::Guest;
 use guest::Injected;
 use guest::Injection;
-use injection_rows::Asked;
 use monitor::inject_in_place;
 use rows::Reply;
 use rows::Row;
-use rows::rest;
-use state_rows::is_state;
-use state_rows::state;
+use rows::state;
+use state_words::state_of;
 
 // The state is lent, and then what it has become is read.
 fn inject_lent(before: Guest, what: Injection) -> Injected
@@ -23,12 +23,9 @@ fn inject_lent(before: Guest, what: Injection) -> Injected
 }
 
 pub fn answer(row: Row) -> Reply {
-    let before = rest(row, 6);
-    if !is_state(before) {
+    if !is_asked(row) {
         return rows::no_row();
     }
-    match injection_rows::from_row(row) {
-        Asked::Injection(what) => shown(before, inject_lent(state(before), what)),
-        Asked::None => rows::no_row(),
-    }
+    let before = state(row, 6);
+    shown(before, inject_lent(state_of(before), injection(row)))
 }

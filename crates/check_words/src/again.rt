@@ -1,13 +1,15 @@
 // `again ORIGIN EDITION WORD`: syndrome::rewrite.
+use super::read::is_asked;
 use super::write::shown;
+use esr_calls::origin_of;
 use record::Esr;
-use record_rows::origin;
 use rows::Reply;
 use rows::Row;
 
 pub fn answer(row: Row) -> Reply {
-    if !rows::shaped(row, b"fwd") {
+    if !is_asked(row) {
         return rows::no_row();
     }
-    shown(syndrome::rewrite(origin(row, 0), rows::word(row, 1), Esr(rows::long(row, 2))))
+    let origin = origin_of(rows::word(row, 0));
+    shown(syndrome::rewrite(origin, rows::word(row, 1), Esr(rows::long(row, 2))))
 }

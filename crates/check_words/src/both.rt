@@ -3,8 +3,8 @@ use super::trapped::refused;
 use super::trapped::with_trap;
 use address::Far;
 use address::Hpfar;
+use esr_calls::origin_of;
 use record::Esr;
-use record_rows::origin;
 use rows::Reply;
 use rows::Row;
 use rows::long;
@@ -19,13 +19,14 @@ fn shown(answer: Both) -> Reply {
 }
 
 pub fn answer(row: Row) -> Reply {
-    if !rows::shaped(row, b"fwwddd") {
+    if !((rows::count(row) == 6) & rows::are_words(row, 0, 3)) {
         return rows::no_row();
     }
+    let origin = origin_of(word(row, 0));
     let esr = Esr(long(row, 3));
     let far = Far(long(row, 4));
     let hpfar = Hpfar(long(row, 5));
     let first = word(row, 1);
     let second = word(row, 2);
-    shown(trap::read_both(origin(row, 0), first, second, esr, far, hpfar))
+    shown(trap::read_both(origin, first, second, esr, far, hpfar))
 }

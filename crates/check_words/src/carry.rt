@@ -1,26 +1,27 @@
 // `carry ORIGIN WRITER READER RECORD`: syndrome::carry. After 0 for a record that is written comes the reader's answer.
 use super::read;
 use super::refusal;
-use record_rows::Given;
-use record_rows::origin;
+use esr_calls::origin_of;
+use record_of_words::record_of;
 use rows::Reply;
 use rows::Row;
+use rows::is_words;
+use rows::sixteen;
 use rows::word;
 use syndrome::Carried;
 
 fn shown(answer: Carried) -> Reply {
     match answer {
-        Carried::Read(answer) => rows::joined(rows::one(0), read::shown(answer)),
-        Carried::Unwritten(refusal) => refusal::shown(refusal),
+        Carried::Read(answer) => read::shown(rows::one(0), answer),
+        Carried::Unwritten(refusal) => refusal::shown(rows::no_row(), refusal),
     }
 }
 
 pub fn answer(row: Row) -> Reply {
-    if !rows::begins(row, b"fww") {
+    if !is_words(row, 19) {
         return rows::no_row();
     }
-    match record_rows::from_row(rows::rest(row, 3)) {
-        Given::Record(r) => shown(syndrome::carry(origin(row, 0), word(row, 1), word(row, 2), r)),
-        Given::None => rows::no_row(),
-    }
+    let origin = origin_of(word(row, 0));
+    let record = record_of(sixteen(row, 3));
+    shown(syndrome::carry(origin, word(row, 1), word(row, 2), record))
 }

@@ -6,7 +6,7 @@ use rows::word;
 use short_record::Hsr;
 
 pub fn answer(row: Row) -> Reply {
-    if !rows::shaped(row, b"ww") {
+    if !rows::is_words(row, 2) {
         return rows::no_row();
     }
     shown(short::rewrite(word(row, 0), Hsr(word(row, 1))))

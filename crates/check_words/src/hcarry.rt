@@ -3,23 +3,21 @@ use super::hread;
 use super::refusal;
 use rows::Reply;
 use rows::Row;
+use rows::sixteen;
 use rows::word;
 use short::Carried;
-use short_rows::Given;
+use short_words::record_of;
 
 fn shown(answer: Carried) -> Reply {
     match answer {
-        Carried::Read(answer) => rows::joined(rows::one(0), hread::shown(answer)),
-        Carried::Unwritten(refusal) => refusal::shown(refusal),
+        Carried::Read(answer) => hread::shown(rows::one(0), answer),
+        Carried::Unwritten(refusal) => refusal::shown(rows::no_row(), refusal),
     }
 }
 
 pub fn answer(row: Row) -> Reply {
-    if !rows::begins(row, b"ww") {
+    if !rows::is_words(row, 18) {
         return rows::no_row();
     }
-    match short_rows::from_row(rows::rest(row, 2)) {
-        Given::Record(r) => shown(short::carry(word(row, 0), word(row, 1), r)),
-        Given::None => rows::no_row(),
-    }
+    shown(short::carry(word(row, 0), word(row, 1), record_of(sixteen(row, 2))))
 }

@@ -2,21 +2,22 @@
 use super::refusal;
 use rows::Reply;
 use rows::Row;
+use rows::with;
 use rows::word;
 use short::Read;
 use short_record::Hsr;
-use short_rows::with_record;
+use short_words::words_of;
 
-pub fn shown(answer: Read) -> Reply {
+pub fn shown(reply: Reply, answer: Read) -> Reply {
     match answer {
-        Read::Taken(r) => with_record(rows::one(0), r),
-        Read::Refused(refusal) => refusal::shown(refusal),
+        Read::Taken(r) => rows::with_sixteen(with(reply, 0), words_of(r)),
+        Read::Refused(refusal) => refusal::shown(reply, refusal),
     }
 }
 
 pub fn answer(row: Row) -> Reply {
-    if !rows::shaped(row, b"ww") {
+    if !rows::is_words(row, 2) {
         return rows::no_row();
     }
-    shown(short::read(word(row, 0), Hsr(word(row, 1))))
+    shown(rows::no_row(), short::read(word(row, 0), Hsr(word(row, 1))))
 }

@@ -2,22 +2,20 @@
 use super::refusal;
 use rows::Reply;
 use rows::Row;
+use rows::sixteen;
 use short::Written;
-use short_rows::Given;
+use short_words::record_of;
 
 pub fn shown(answer: Written) -> Reply {
     match answer {
         Written::Word(hsr) => rows::with(rows::one(0), hsr.0 as u64),
-        Written::Refused(refusal) => refusal::shown(refusal),
+        Written::Refused(refusal) => refusal::shown(rows::no_row(), refusal),
     }
 }
 
 pub fn answer(row: Row) -> Reply {
-    if !rows::begins(row, b"w") {
+    if !rows::is_words(row, 17) {
         return rows::no_row();
     }
-    match short_rows::from_row(rows::rest(row, 1)) {
-        Given::Record(r) => shown(short::write(rows::word(row, 0), r)),
-        Given::None => rows::no_row(),
-    }
+    shown(short::write(rows::word(row, 0), record_of(sixteen(row, 1))))
 }

@@ -3,9 +3,10 @@ use address::Far;
 use address::Hpfar;
 use address::IntermediateAddress;
 use address::VirtualAddress;
+use esr_calls::origin_of;
 use record::Esr;
-use record_rows::origin;
-use record_rows::with_record;
+use record::Record;
+use record_words::words_of;
 use rows::Reply;
 use rows::Row;
 use rows::long;
@@ -15,6 +16,10 @@ use trap::Addressed;
 use trap::Answer;
 use trap::Trap;
 use trap::TrapRefusal;
+
+fn with_record(reply: Reply, r: Record) -> Reply {
+    rows::with_sixteen(reply, words_of(r))
+}
 
 fn with_virtual(reply: Reply, address: VirtualAddress) -> Reply {
     match address {
@@ -55,6 +60,7 @@ pub fn with_trap(reply: Reply, t: Trap) -> Reply {
 
 pub fn refused(refusal: TrapRefusal) -> Reply {
     rows::refused(
+        rows::no_row(),
         trap::number(refusal),
         trap::mask(refusal),
         trap::count(refusal),
@@ -69,11 +75,12 @@ fn shown(answer: Answer) -> Reply {
 }
 
 pub fn answer(row: Row) -> Reply {
-    if !rows::shaped(row, b"fwddd") {
+    if !((rows::count(row) == 5) & rows::are_words(row, 0, 2)) {
         return rows::no_row();
     }
+    let origin = origin_of(rows::word(row, 0));
     let esr = Esr(long(row, 2));
     let far = Far(long(row, 3));
     let hpfar = Hpfar(long(row, 4));
-    shown(trap::read(origin(row, 0), rows::word(row, 1), esr, far, hpfar))
+    shown(trap::read(origin, rows::word(row, 1), esr, far, hpfar))
 }

@@ -1,24 +1,24 @@
 // `widen MODE RECORD`: widen::widen.
-use record_rows::with_record;
+use record_words::words_of;
 use rows::Reply;
 use rows::Row;
-use short_rows::Given;
+use rows::no_row;
+use rows::refused;
+use rows::sixteen;
+use short_words::record_of;
 use widen::Widened;
 
 fn shown(answer: Widened) -> Reply {
     match answer {
-        Widened::Long(r) => with_record(rows::one(0), r),
-        Widened::BadMode => rows::refused(9, 0, 0),
-        Widened::NoEdition => rows::refused(5, 0, 0),
+        Widened::Long(r) => rows::with_sixteen(rows::one(0), words_of(r)),
+        Widened::BadMode => refused(no_row(), 9, 0, 0),
+        Widened::NoEdition => refused(no_row(), 5, 0, 0),
     }
 }
 
 pub fn answer(row: Row) -> Reply {
-    if !rows::begins(row, b"w") {
-        return rows::no_row();
+    if !rows::is_words(row, 17) {
+        return no_row();
     }
-    match short_rows::from_row(rows::rest(row, 1)) {
-        Given::Record(r) => shown(widen::widen(rows::word(row, 0), r)),
-        Given::None => rows::no_row(),
-    }
+    shown(widen::widen(rows::word(row, 0), record_of(sixteen(row, 1))))
 }

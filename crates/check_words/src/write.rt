@@ -1,24 +1,25 @@
 // `write ORIGIN EDITION RECORD`: syndrome::write.
 use super::refusal;
-use record_rows::Given;
-use record_rows::origin;
+use esr_calls::origin_of;
+use record_of_words::record_of;
 use rows::Reply;
 use rows::Row;
+use rows::is_words;
+use rows::sixteen;
+use rows::word;
 use syndrome::Written;
 
 pub fn shown(answer: Written) -> Reply {
     match answer {
         Written::Word(esr) => rows::with(rows::one(0), esr.0),
-        Written::Refused(refusal) => refusal::shown(refusal),
+        Written::Refused(refusal) => refusal::shown(rows::no_row(), refusal),
     }
 }
 
 pub fn answer(row: Row) -> Reply {
-    if !rows::begins(row, b"fw") {
+    if !is_words(row, 18) {
         return rows::no_row();
     }
-    match record_rows::from_row(rows::rest(row, 2)) {
-        Given::Record(r) => shown(syndrome::write(origin(row, 0), rows::word(row, 1), r)),
-        Given::None => rows::no_row(),
-    }
+    let origin = origin_of(word(row, 0));
+    shown(syndrome::write(origin, word(row, 1), record_of(sixteen(row, 2))))
 }

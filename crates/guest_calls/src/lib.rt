@@ -2,6 +2,7 @@
 mod asked;
 mod calls;
 
+pub use asked::injection_of;
 pub use calls::knucklepin_deliver;
 pub use calls::knucklepin_delivery_correction;
 pub use calls::knucklepin_from_spsr;

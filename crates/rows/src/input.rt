@@ -1,4 +1,7 @@
 // Rows read from standard input a byte at a time: a word of small letters, and hexadecimal numbers with one space before each.
+ghost use mathlib.Core.Path.{_≡_};
+ghost use Prim.Native.Nat.{_≤_, max};
+ghost use Rattle.rows.specs.Row.{noLine};
 use super::row::Row;
 use super::row::with_letter;
 use libc::STDIN_FILENO;
@@ -21,7 +24,9 @@ struct Line {
     good: bool,
 }
 
-fn empty_line() -> Line {
+fn empty_line() -> Line
+    ensures { λ r. ⌜ r .count ≡ 0 ⌝ }
+{
     Line {
         empty: true,
         word: 0,
@@ -34,7 +39,9 @@ fn empty_line() -> Line {
     }
 }
 
-fn feed_word(line: Line, byte: u8) -> Line {
+fn feed_word(line: Line, byte: u8) -> Line
+    ensures { λ r. ⌜ r .count ≤ max (line .count) 256 ⌝ }
+{
     let mut next = line;
     match byte {
         b'a'..=b'z' => next.word = with_letter(next.word, byte),
@@ -45,7 +52,9 @@ fn feed_word(line: Line, byte: u8) -> Line {
 }
 
 // Ends a number, which needs a digit and a place.
-fn end_number(line: Line) -> Line {
+fn end_number(line: Line) -> Line
+    ensures { λ r. ⌜ r .count ≤ max (line .count) 256 ⌝ }
+{
     let mut next = line;
     let count = next.count;
     let value = next.value;
@@ -62,7 +71,9 @@ fn end_number(line: Line) -> Line {
 }
 
 // One digit more. A number of more than 64 bits is none.
-fn feed_digit(line: Line, digit: u32) -> Line {
+fn feed_digit(line: Line, digit: u32) -> Line
+    ensures { λ r. ⌜ r .count ≤ max (line .count) 256 ⌝ }
+{
     let mut next = line;
     if next.value < 0x1000_0000_0000_0000 {
         next.value = next.value * 16 + (digit % 16) as u64;
@@ -73,7 +84,9 @@ fn feed_digit(line: Line, digit: u32) -> Line {
     next
 }
 
-fn feed_number(line: Line, byte: u8) -> Line {
+fn feed_number(line: Line, byte: u8) -> Line
+    ensures { λ r. ⌜ r .count ≤ max (line .count) 256 ⌝ }
+{
     if byte == b' ' {
         return end_number(line);
     }
@@ -88,7 +101,9 @@ fn feed_number(line: Line, byte: u8) -> Line {
 }
 
 // One byte more of the line.
-fn feed(line: Line, byte: u8) -> Line {
+fn feed(line: Line, byte: u8) -> Line
+    ensures { λ r. ⌜ r .count ≤ max (line .count) 256 ⌝ }
+{
     let mut next = line;
     next.empty = false;
     if next.named {
@@ -146,7 +161,9 @@ pub struct Reader {
 }
 
 // Nothing has been read.
-pub fn start() -> Reader {
+pub fn start() -> Reader
+    ensures { λ r. ⌜ r .row ≡ noLine ⌝ }
+{
     Reader {
         row: Row {
             word: 0,
@@ -164,7 +181,9 @@ pub fn start() -> Reader {
 }
 
 // A line that has ended, and with it its last number: a word alone is no row.
-fn row_of(line: Line) -> Row {
+fn row_of(line: Line) -> Row
+    ensures { λ r. ⌜ r .count ≤ max (line .count) 256 ⌝ }
+{
     let whole = end_number(line);
     Row {
         word: if whole.good { whole.word } else { 0 },
@@ -176,7 +195,9 @@ fn row_of(line: Line) -> Row {
 // Reads the next row by way of a chunk. A last line may lack its newline, but what follows the last newline is no line where it is empty.
 //
 // A proved loop has to end, and nothing says that a line does: it counts down from a number that no run uses up.
-pub fn read(chunk: &mut [u8; 512], before: Reader) -> Reader {
+pub fn read(chunk: &mut [u8; 512], before: Reader) -> Reader
+    ensures { λ r. ⌜ r .row .count ≤ 256 ⌝ }
+{
     let mut place = before.place;
     let mut line = empty_line();
     let mut turns = u64::MAX;

@@ -1,9 +1,8 @@
 // Replies: the numbers of a line, and the line written.
-use super::row::Row;
-use super::row::long;
-use super::row::with_number;
+ghost use mathlib.Core.Path.{_≡_};
+ghost use mathlib.Core.List.{[], _∷_};
+ghost use Rattle.rows.specs.Reply.{noRow, withOne, withFirst, withChange, withChanges};
 use libc::STDOUT_FILENO;
-use std::num::wrapping_add_usize;
 
 // What a row is answered by. No call answers with more numbers.
 pub struct Reply {
@@ -12,7 +11,9 @@ pub struct Reply {
 }
 
 // To a line that is no row of the program's calls: a reply with no number, which is written so.
-pub fn no_row() -> Reply {
+pub fn no_row() -> Reply
+    ensures { λ r. ⌜ r ≡ noRow ⌝ }
+{
     Reply {
         count: 0,
         numbers: [0; 256],
@@ -20,7 +21,9 @@ pub fn no_row() -> Reply {
 }
 
 // A reply with one number more.
-pub fn with(reply: Reply, n: u64) -> Reply {
+pub fn with(reply: Reply, n: u64) -> Reply
+    ensures { λ r. ⌜ r ≡ withOne reply n ⌝ }
+{
     let mut next = reply;
     let count = next.count;
     if count < 256 {
@@ -30,19 +33,56 @@ pub fn with(reply: Reply, n: u64) -> Reply {
     next
 }
 
-pub fn one(n: u64) -> Reply {
+pub fn one(n: u64) -> Reply
+    ensures { λ r. ⌜ r ≡ withOne noRow n ⌝ }
+{
     with(no_row(), n)
 }
 
-fn wide(word: u32) -> u64 {
+fn wide(word: u32) -> u64
+    ensures { λ n. ⌜ n ≡ word ⌝ }
+{
     word as u64
 }
 
-pub fn with_words(reply: Reply, words: &[u32]) -> Reply {
+// A reply with a refusal's number, mask and count after it.
+pub fn refused(reply: Reply, number: u32, mask: u32, count: u32) -> Reply
+    ensures { λ r. ⌜ r ≡ withFirst reply (number ∷ mask ∷ count ∷ []) 3 ⌝ }
+{
+    with(with(with(reply, wide(number)), wide(mask)), wide(count))
+}
+
+// A reply with sixteen words after it.
+pub fn with_sixteen(reply: Reply, words: [u32; 16]) -> Reply
+    ensures { λ r. ⌜ r ≡ withFirst reply words 16 ⌝ }
+{
     let mut next = reply;
     let mut i = 0;
-    while i < words.len() {
+    while i < 16 {
         next = with(next, wide(words[i]));
+        i += 1;
+    }
+    next
+}
+
+// A word after its place, where it isn't the one that stood there before.
+fn with_change(reply: Reply, place: usize, before: u32, after: u32) -> Reply
+    ensures { λ r. ⌜ r ≡ withChange reply place before after ⌝ }
+{
+    if before == after {
+        return reply;
+    }
+    with(with(reply, place as u64), wide(after))
+}
+
+// A reply with those words of a state that aren't as before, each after its place.
+pub fn with_changes(reply: Reply, before: [u32; 48], after: [u32; 48]) -> Reply
+    ensures { λ r. ⌜ r ≡ withChanges reply before after 48 ⌝ }
+{
+    let mut next = reply;
+    let mut i = 0;
+    while i < 48 {
+        next = with_change(next, i, before[i], after[i]);
         i += 1;
     }
     next
@@ -51,61 +91,6 @@ pub fn with_words(reply: Reply, words: &[u32]) -> Reply {
 fn number_at(reply: Reply, at: usize) -> u64 {
     let numbers = reply.numbers;
     if at < 256 { numbers[at] } else { 0 }
-}
-
-// A reply with the numbers of another after its own.
-pub fn joined(first: Reply, second: Reply) -> Reply {
-    let mut next = first;
-    let mut i = 0;
-    while i < second.count {
-        next = with(next, number_at(second, i));
-        i += 1;
-    }
-    next
-}
-
-// A word after its place, where it isn't the number that stood there before.
-fn with_change(reply: Reply, before: Row, place: usize, word: u64) -> Reply {
-    if long(before, place) == word {
-        return reply;
-    }
-    with(with(reply, place as u64), word)
-}
-
-// Those of some words from a place on that aren't as before.
-pub fn with_changes(reply: Reply, before: Row, place: usize, words: &[u32]) -> Reply {
-    let mut next = reply;
-    let mut i = 0;
-    while i < words.len() {
-        next = with_change(next, before, wrapping_add_usize(place, i), wide(words[i]));
-        i += 1;
-    }
-    next
-}
-
-fn put_change(row: Row, changes: Reply, i: usize) -> Row {
-    let at = wrapping_add_usize(i, i);
-    with_number(
-        row,
-        number_at(changes, at),
-        number_at(changes, wrapping_add_usize(at, 1)),
-    )
-}
-
-// A row with the numbers of a reply, each put at the place that stands before it.
-pub fn changed(row: Row, changes: Reply) -> Row {
-    let mut next = row;
-    let mut i = 0;
-    while i < changes.count / 2 {
-        next = put_change(next, changes, i);
-        i += 1;
-    }
-    next
-}
-
-// A refusal's number, mask and count.
-pub fn refused(number: u32, mask: u32, count: u32) -> Reply {
-    with(with(one(wide(number)), wide(mask)), wide(count))
 }
 
 // Appends a space and a number.

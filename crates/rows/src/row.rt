@@ -1,5 +1,7 @@
 // The word and the numbers of a row.
-use std::num::wrapping_add_usize;
+ghost use mathlib.Core.Path.{_≡_};
+ghost use lib.ListN.{length};
+ghost use Rattle.rows.specs.Row.{withLetter, spelledBelow, spells, numberAt, wordAt, areWords, isWords, wordsAt};
 
 // A row, or a line that is none: its word is 0 then, which no letters spell.
 pub struct Row {
@@ -11,12 +13,16 @@ pub struct Row {
 }
 
 // A word with one letter more.
-pub(crate) fn with_letter(word: u64, letter: u8) -> u64 {
+pub(crate) fn with_letter(word: u64, letter: u8) -> u64
+    ensures { λ w. ⌜ w ≡ withLetter word letter ⌝ }
+{
     word % 0x100_0000_0000_0000 * 256 + letter as u64
 }
 
 // A word's last eight letters as one number. Words of fewer letters differ in it from each other and from all longer ones.
-fn spelled(letters: &[u8]) -> u64 {
+fn spelled(letters: &[u8]) -> u64
+    ensures { λ w. ⌜ w ≡ spelledBelow (now (letters .entry)) (length (now (letters .entry))) ⌝ }
+{
     let mut word: u64 = 0;
     let mut i = 0;
     while i < letters.len() {
@@ -27,91 +33,76 @@ fn spelled(letters: &[u8]) -> u64 {
 }
 
 // Whether a row has a word.
-pub fn is(row: Row, letters: &[u8]) -> bool {
+pub fn is(row: Row, letters: &[u8]) -> bool
+    ensures { λ yes. ⌜ yes ≡ spells row (now (letters .entry)) ⌝ }
+{
     row.word == spelled(letters)
 }
 
-// The number at a place of a row that has been found to have its shape.
-pub fn long(row: Row, at: usize) -> u64 {
+// How many numbers a row has.
+pub fn count(row: Row) -> usize
+    ensures { λ n. ⌜ n ≡ row .count ⌝ }
+{
+    row.count
+}
+
+// The number at a place, or 0.
+pub fn long(row: Row, at: usize) -> u64
+    ensures { λ n. ⌜ n ≡ numberAt row at ⌝ }
+{
     let numbers = row.numbers;
     if at < 256 { numbers[at] } else { 0 }
 }
 
-pub fn word(row: Row, at: usize) -> u32 {
+// The word at a place that has been found to hold one.
+pub fn word(row: Row, at: usize) -> u32
+    ensures { λ n. ⌜ n ≡ wordAt row at ⌝ }
+{
     (long(row, at) % 0x1_0000_0000) as u32
 }
 
-pub fn byte(row: Row, at: usize) -> u8 {
-    (long(row, at) % 0x100) as u8
-}
-
-pub fn flag(row: Row, at: usize) -> bool {
-    long(row, at) != 0
-}
-
-// The largest number of a kind: a flag (f), one of ten transfers (t), 8 bits (b), 32 bits (w), 64 bits (d); every other letter stands for 0
-// alone.
-fn largest(kind: u8) -> u64 {
-    match kind {
-        b'f' => 1,
-        b't' => 9,
-        b'b' => 0xFF,
-        b'w' => 0xFFFF_FFFF,
-        b'd' => u64::MAX,
-        _ => 0,
-    }
-}
-
-// Whether a row begins with the numbers of a shape, which has a letter for each: none is missing or too large for its letter.
-pub fn begins(row: Row, shape: &[u8]) -> bool {
+// Whether a row has every place before `to`, and from `from` on words, numbers of 32 bits, there.
+pub fn are_words(row: Row, from: usize, to: usize) -> bool
+    ensures { λ yes. ⌜ yes ≡ areWords row from to ⌝ }
+{
+    let mut all = true;
     let mut i = 0;
-    while i < shape.len() {
-        if i >= row.count {
-            return false;
-        }
-        if long(row, i) > largest(shape[i]) {
-            return false;
-        }
+    while i < to {
+        all = all & ((i < from) | (long(row, i) < 0x1_0000_0000));
         i += 1;
     }
-    true
+    (to <= row.count) & all
 }
 
-// Whether a row has the numbers of a shape and no more.
-pub fn shaped(row: Row, shape: &[u8]) -> bool {
-    begins(row, shape) & (row.count == shape.len())
+// Whether a row is so many words.
+pub fn is_words(row: Row, n: usize) -> bool
+    ensures { λ yes. ⌜ yes ≡ isWords row n ⌝ }
+{
+    (row.count == n) & are_words(row, 0, n)
 }
 
-// How many numbers a row has.
-pub fn count(row: Row) -> usize {
-    row.count
-}
-
-// The row with another number at a place.
-pub fn with_number(row: Row, place: u64, n: u64) -> Row {
-    let mut next = row;
-    let at = place as usize;
-    if at < 256 {
-        next.numbers[at] = n;
-    }
-    next
-}
-
-// The row from a place on, under the same word.
-pub fn rest(row: Row, from: usize) -> Row {
-    let mut numbers = [0u64; 256];
+// Sixteen words from a place on: a record's, or an A32 access's values.
+pub fn sixteen(row: Row, from: u8) -> [u32; 16]
+    ensures { λ w. ⌜ w ≡ wordsAt row from 16 ⌝ }
+{
+    let mut words = [0u32; 16];
     let mut i = 0;
-    while i < 256 {
-        numbers[i] = long(row, wrapping_add_usize(from, i));
+    while i < 16 {
+        words[i] = word(row, from as usize + i);
         i += 1;
     }
-    Row {
-        word: row.word,
-        count: left(row.count, from),
-        numbers,
-    }
+    words
 }
 
-fn left(count: usize, from: usize) -> usize {
-    if from < count { count - from } else { 0 }
+// A state's words from a place on.
+pub fn state(row: Row, from: u8) -> [u32; 48]
+    ensures { λ w. ⌜ w ≡ wordsAt row from 48 ⌝ }
+{
+    let mut words = [0u32; 48];
+    let mut i = 0;
+    while i < 48 {
+        words[i] = word(row, from as usize + i);
+        i += 1;
+    }
+    words
 }

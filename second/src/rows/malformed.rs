@@ -2,58 +2,63 @@
 
 use crate::call::Checker;
 
+/// A row that ends in the words of a record, zeros after those that are given.
+fn with_record(row: &str, words: &str) -> String {
+    let zeros = " 0".repeat(16 - words.split(' ').count());
+    format!("{row} {words}{zeros}")
+}
+
 /// Rows of every call.
 fn rows() -> Vec<String> {
     let words: String = (1..=45).map(|number| format!(" {number:x}")).collect();
     let state = words + " 1 0 1";
     let mut rows: Vec<String> = [
-        "read 0 0 92000005",
-        "write 0 0 0 0 1",
-        "write 0 0 1 1 1 e 1",
-        "write 0 0 2 3 1 1 e 0 0 0 0 0 1",
-        "write 0 0 3 4 1 1 e 1 2 3 4 0",
-        "write 0 0 4 1 1 e ff 1f 1 3 0",
-        "write 0 0 5 1 1 e",
-        "write 0 0 6 11 1 ffff",
-        "write 0 0 7 1 1 e 1",
-        "write 0 0 8 1 3 1 1 0 10",
-        "write 0 0 9 1 1 2 0 3 0 0 0 0 0 0 0 1 5",
-        "write 0 0 a 30 1",
-        "write 0 0 b 1 1 1",
-        "write 0 0 c 1 1 1",
-        "write 0 0 d 1 6 1 11",
-        "write 1 0 e 1 3 7 7 f 1f f 1",
-        "carry 0 0 1 8 1 3 1 1 0 10",
-        "trap 0 0 92000005 8abc 12340",
-        "both 0 0 2 92000005 8abc 12340",
-        "hread 0 92000005",
-        "hwrite 0 5 1 1 e 1 a",
-        "hwrite 0 8 1 1 1 0 10",
-        "hwrite 0 9 1 1 2 0 3 0 0 0 0 0 0 1 5",
-        "widen 10 2 3 1 1 e 0 0 0 0 0 1",
-        "spsr 1 0 1 1000010",
-        "again 0 0 92000005",
-        "hagain 0 92000005",
-        "hcarry 0 1 5 1 1 e 1 a",
-        "held 13 d",
-        "decode e5910004",
-        "encode 0 0 e 1 1 0 1 0 4",
-        "encode 1 2 e 1 1 0 1 0 2",
-        "encode 2 4 e 1 0 4",
-        "encode 3 1 e 0 1 1 d 8000",
+        "read 0 0 92000005".into(),
+        with_record("write 0 0", "0 0 1"),
+        with_record("write 0 0", "1 1 1 e 1"),
+        with_record("write 0 0", "2 3 1 1 e 0 0 0 0 0 1"),
+        with_record("write 0 0", "3 4 1 1 e 1 2 3 4 0"),
+        with_record("write 0 0", "4 1 1 e ff 1f 1 3 0"),
+        with_record("write 0 0", "5 1 1 e"),
+        with_record("write 0 0", "6 11 1 ffff"),
+        with_record("write 0 0", "7 1 1 e 1"),
+        with_record("write 0 0", "8 1 3 1 1 0 10"),
+        with_record("write 0 0", "9 1 1 2 0 3 0 0 0 0 0 0 0 1 5"),
+        with_record("write 0 0", "a 30 1"),
+        with_record("write 0 0", "b 1 1 1"),
+        with_record("write 0 0", "c 1 1 1"),
+        with_record("write 0 0", "d 1 6 1 11"),
+        with_record("write 1 0", "e 1 3 7 7 f 1f f 1"),
+        with_record("carry 0 0 1", "8 1 3 1 1 0 10"),
+        "trap 0 0 92000005 8abc 12340".into(),
+        "both 0 0 2 92000005 8abc 12340".into(),
+        "hread 0 92000005".into(),
+        with_record("hwrite 0", "5 1 1 e 1 a"),
+        with_record("hwrite 0", "8 1 1 1 0 10"),
+        with_record("hwrite 0", "9 1 1 2 0 3 0 0 0 0 0 0 1 5"),
+        with_record("widen 10", "2 3 1 1 e 0 0 0 0 0 1"),
+        "spsr 1 0 1 1000010".into(),
+        "again 0 0 92000005".into(),
+        "hagain 0 92000005".into(),
+        with_record("hcarry 0 1", "5 1 1 e 1 a"),
+        "held 13 d".into(),
+        "decode e5910004".into(),
+        "encode 0 0 e 1 1 0 1 0 4".into(),
+        "encode 1 2 e 1 1 0 1 0 2".into(),
+        "encode 2 4 e 1 0 4".into(),
+        "encode 3 1 e 0 1 1 d 8000".into(),
     ]
-    .map(String::from)
     .into();
     for injection in ["0 0 0 0 0 0", "3 1 1 8000 0 0", "4 0 0 8000 1 0"] {
         rows.push(format!("inject {injection}{state}"));
         rows.push(format!("lent {injection}{state}"));
     }
     rows.push(format!("access e5910004{state}"));
-    rows.push(format!("finish 1{state} 9 1 1 2 0 3 0 0 0 0 0 0 0 1 5"));
-    rows.push(format!("finish 1{state} 6 11 1 ffff"));
-    rows.push("passes 10 1 1 1 e 1".into());
-    rows.push(format!("step{state} 1 1 1 e 1"));
-    rows.push(format!("copro 1 2{state} 3 4 1 1 e 1 2 3 4 0"));
+    rows.push(with_record(&format!("finish 1{state}"), "9 1 1 2 0 3 0 0 0 0 0 0 0 1 5"));
+    rows.push(with_record(&format!("finish 1{state}"), "6 11 1 ffff"));
+    rows.push(with_record("passes 10", "1 1 1 e 1"));
+    rows.push(with_record(&format!("step{state}"), "1 1 1 e 1"));
+    rows.push(with_record(&format!("copro 1 2{state}"), "3 4 1 1 e 1 2 3 4 0"));
     rows.push(format!("perform e5910004{}{state}", " 1".repeat(16)));
     rows.push(format!("run{state} 0 2 1 20 10 2b 40 2d 1 30 1 30"));
     rows.push(format!("run{state} 2 4 0 0 8000 1 3 1 2"));
@@ -75,8 +80,8 @@ fn with_each_number(row: &str, value: &str) -> Vec<String> {
 
 /// Numbers missing and too many; each number in turn too large for a flag, for
 /// a byte, for 32 bits and for 64 bits, empty, and no number; other words for
-/// the call; other spaces. Some of them are rows: a number above one bit need
-/// not be a flag. The last has no newline.
+/// the call; other spaces. Some of them are rows: words that are no record's are
+/// answered, and so is a mark that isn't 1. The last has no newline.
 pub fn lines(checker: &Checker) -> Vec<u8> {
     let mut lines = Vec::new();
     for row in rows().into_iter().filter(|row| checker.is_asked_by(row.as_bytes())) {

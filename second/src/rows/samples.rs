@@ -4,7 +4,7 @@ use crate::form::{Form, Kind, Record};
 use crate::long::{Origin, LONG};
 use crate::random::Random;
 
-/// At least one ordinary record of each class of AArch32, as rows. Some of the
+/// At least one ordinary record of each class of AArch32, by its words. Some of the
 /// aborts are had by some editions only.
 const SAMPLES: [&[u64]; 40] = [
     &[0, 0x00, 1],
@@ -78,7 +78,7 @@ const AARCH64_SAMPLES: [&[u64]; 24] = [
 ];
 
 pub fn record(row: &[u64]) -> Record {
-    Record::from_row(&LONG, row).expect("a record")
+    Record::of(&LONG, row).expect("a record")
 }
 
 pub fn samples(origin: Origin) -> impl Iterator<Item = Record> {
@@ -141,7 +141,7 @@ pub fn calls(form: &Form) -> Vec<Record> {
     for class in form.classes_of(&form.kinds[6]) {
         for il in [0, 1] {
             for imm16 in [0, 1, 0xfe, 0xff, 0x100, 0x101, 0x1ff, 0x8000, 0xff00, 0xffff, 0x1_0000] {
-                records.extend(Record::from_row(form, &[6, class.into(), il, imm16]));
+                records.extend(Record::of(form, &[6, class.into(), il, imm16]));
             }
         }
     }

@@ -37,7 +37,7 @@ const SAMPLES: [&[u64]; 24] = [
 ];
 
 fn record(row: &[u64]) -> Record {
-    Record::from_row(&SHORT, row).expect("a short record")
+    Record::of(&SHORT, row).expect("a short record")
 }
 
 fn samples() -> impl Iterator<Item = Record> {

@@ -3,10 +3,10 @@ use Rattle.check_runs.proofs.run.answer.Statement.{statement}
 use Rattle.check_runs.proofs.run.answer.Tie as tie
 
 abbrev Inv-loop : tie.InvT-loop
-Inv-loop run₀ count calls₀ run calls = Unit {0}
+Inv-loop row run₀ count calls₀ run calls = Unit {0}
 
 abbrev μ-loop : tie.MeasureT-loop
-μ-loop run₀ count calls₀ run calls = calls
+μ-loop row run₀ count calls₀ run calls = calls
 
 start-requires : tie.Need-start-requires Inv-loop μ-loop
 start-requires c κs = search needs

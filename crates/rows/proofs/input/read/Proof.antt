@@ -1,9 +1,10 @@
 use borrow.Author.Needs.{needs}
+use Prim.Native.Nat.{_≤_}
 use Rattle.rows.proofs.input.read.Statement.{statement}
 use Rattle.rows.proofs.input.read.Tie as tie
 
 abbrev Inv-loop : tie.InvT-loop
-Inv-loop chunk₀ place₀ line₀ turns₀ chunk place line turns = Unit {0}
+Inv-loop chunk₀ place₀ line₀ turns₀ chunk place line turns = line .count ≤ 256
 
 abbrev μ-loop : tie.MeasureT-loop
 μ-loop chunk₀ place₀ line₀ turns₀ chunk place line turns = turns

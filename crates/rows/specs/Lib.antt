@@ -1,0 +1,3 @@
+-- Rows of the second program, and replies to them.
+pub mod Row
+pub mod Reply
