@@ -3,8 +3,9 @@
 use mathlib.Core.Path.{_≡_, refl, _∙_, sym, ap, subst}
 use mathlib.Core.Bool.{Bool, true, false, _&&_, and-true, and-assoc}
 use mathlib.Core.List.{List, [], _∷_}
-use Prim.Native.Nat.{ℕ, _+_, _-_, _*_, _%_, _^_, _≤_, _<_}
+use Prim.Native.Nat.{ℕ, zero, suc, _+_, _-_, _*_, _%_, _^_, _≤_, _<_}
 use native.Mathlib.Nat.{add-assoc, add-mul, add-zero, zero-add, zero-mul, lt-of-lt-of-le, mod-eq-of-lt, sub-add-cancel}
+use native.Mathlib.Nat.{le-of-suc-le-suc, not-suc-le-zero}
 use native.Mathlib.Omega.{arith}
 use lib.Arith.{digits-lt}
 use lib.Bits.{bitOr, or-shifted}
@@ -14,20 +15,20 @@ use Rattle.bits.specs.Field.{widthOf, fieldOf, bitOf, digit, placedOf}
 use Rattle.bits.specs.Layout.{Field, at, flagAt, highOf, lowOf, valueOf, wordOf, fitting, ordered}
 use Rattle.bits.specs.Inner.{joinedFrom}
 use Rattle.bits.proofs.Booleans.{both-left, both-right}
-use Rattle.bits.proofs.Powers.{shift-by-way}
+use Rattle.bits.proofs.Powers.{shift-by-way, field-below}
 
 -- what `ordered` and `fitting` say of the first field
 module _ (top : ℕ) (f : Field) (fs : List Field) (o : T (ordered top (f ∷ fs))) where
   places : T (leb (lowOf f) (highOf f) && ltb (highOf f) top)
   places = both-left (leb (lowOf f) (highOf f) && ltb (highOf f) top) (ordered (lowOf f) fs) o
 
-  low≤high : lowOf f ≤ highOf f
+  pub low≤high : lowOf f ≤ highOf f
   low≤high = leb→le (lowOf f) (highOf f) (both-left (leb (lowOf f) (highOf f)) (ltb (highOf f) top) places)
 
-  high<top : highOf f < top
+  pub high<top : highOf f < top
   high<top = ltb→lt (highOf f) top (both-right (leb (lowOf f) (highOf f)) (ltb (highOf f) top) places)
 
-  rest-ordered : T (ordered (lowOf f) fs)
+  pub rest-ordered : T (ordered (lowOf f) fs)
   rest-ordered = both-right (leb (lowOf f) (highOf f) && ltb (highOf f) top) (ordered (lowOf f) fs) o
 
   low≤top : lowOf f ≤ top
@@ -71,6 +72,14 @@ digit-back false = refl
 -- a yes or no at a bit of a word
 pub flag-back : (w n : ℕ) (b : Bool) → fieldOf w n n ≡ digit b → bitOf w n ≡ b
 flag-back w n b h = ap (λ (d : ℕ). eqb d 1) h ∙ digit-back b
+
+pub flag-at : (w n : ℕ) → fieldOf w n n ≡ digit (bitOf w n)
+flag-at w n = go (fieldOf w n n) (field-below w n n 1 (omega arith))
+  where
+    go : (d : ℕ) → d < 2 ^ 1 → d ≡ digit (eqb d 1)
+    go zero h = refl
+    go (suc zero) h = refl
+    go (suc (suc d)) h = absurd (not-suc-le-zero (le-of-suc-le-suc (le-of-suc-le-suc h)))
 
 -- a value at its bits stays below the top
 value-below : (top : ℕ) (f : Field) (fs : List Field) → T (ordered top (f ∷ fs)) → T (fitting (f ∷ fs)) → valueOf f < 2 ^ (top - lowOf f)

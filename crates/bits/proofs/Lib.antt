@@ -7,3 +7,5 @@ pub mod Powers
 pub mod Fields
 pub mod Table
 pub mod Deciding
+pub mod Sets
+pub mod Unnamed

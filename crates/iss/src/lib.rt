@@ -2,7 +2,7 @@
 ghost use mathlib.Core.Path.{_≡_};
 ghost use Rattle.iss.specs.Rule.{conditionRule, addressingRule, passedRule, mmuFault, externalRule, walkRule, abortRule};
 ghost use Rattle.iss.specs.Rule.{extensionRule, maintenanceRule, directionRule, immediateRule};
-ghost use Rattle.iss.specs.Il.{wideOnly, ilNeeded};
+ghost use Rattle.iss.specs.Il.{ilNeeded};
 
 // CV 1 with COND 1111 is no condition of a trapped instruction.
 pub fn condition_rule(cv: bool, cond: u32) -> bool
@@ -67,18 +67,25 @@ pub fn maintenance_rule(cm: bool, wnr: bool) -> bool
     !cm | wnr
 }
 
-// A trapped instruction that has no 16-bit form.
-fn wide_only(class: u32) -> bool
-    ensures { λ yes. ⌜ yes ≡ wideOnly class ⌝ }
-{
-    (0x03 <= class) & (class <= 0x08) | (class == 0x0C) | (class == 0x12) | (class == 0x13)
-}
+// The classes whose IL must be 1 in every form, whatever ISV is: bit n is 1 for class n.
+const IL_NEEDED: u64 = 1 << 0x00
+    | 1 << 0x03
+    | 1 << 0x04
+    | 1 << 0x05
+    | 1 << 0x06
+    | 1 << 0x07
+    | 1 << 0x08
+    | 1 << 0x0C
+    | 1 << 0x0E
+    | 1 << 0x12
+    | 1 << 0x13
+    | 1 << 0x20;
 
 // Where IL must be 1 in every form.
 pub fn il_needed(class: u32, isv: bool) -> bool
     ensures { λ yes. ⌜ yes ≡ ilNeeded class isv ⌝ }
 {
-    (class == 0x00) | (class == 0x0E) | (class == 0x20) | wide_only(class) | (class == 0x24) & !isv
+    bits::bit(IL_NEEDED, class) | (class == 0x24) & !isv
 }
 
 // A VMRS and an MRRC read: direction 1.

@@ -1,7 +1,7 @@
 -- A word of a known class, with IL as it must be, that breaks no rule is had by some edition: so a word that no edition has breaks a rule
 -- that is named.
 -- Assumes nothing.
-use mathlib.Core.Path.{_≡_, refl, ap, _∙_}
+use mathlib.Core.Path.{_≡_, refl}
 use mathlib.Core.Bool.{Bool, true, false, not, cond, _&&_, _||_, true≢false, and-assoc}
 use mathlib.Core.List.{List, [], _∷_}
 use Prim.Native.Nat.{ℕ}
@@ -11,21 +11,20 @@ use Rattle.bits.specs.Among.{among}
 use Rattle.bits.specs.Decide.{AllPass}
 use Rattle.bits.specs.Field.{fieldOf, bitOf}
 use Rattle.bits.specs.Layout.{fitting}
-use Rattle.bits.proofs.Among.{among-each}
 use Rattle.bits.proofs.Booleans.{is-true}
 use Rattle.edition.specs.Feature.{isEdition}
 use Rattle.iss.specs.Rule.{implies, extensionRule, maintenanceRule}
 use Rattle.layout.specs.Fields.{fieldsOf, recordWord}
-use Rattle.record.specs.Class.{aarch32Classes, isClass, headOf}
-use Rattle.record.specs.Split.{recordOf, recordAt}
+use Rattle.record.specs.Class.{isClass}
+use Rattle.record.specs.Split.{recordAt}
 use Rattle.record.specs.declared.kinds.DataAbort.{DataAbort}
 use Rattle.record.specs.declared.kinds.Record.{Record}
 use Rattle.record.specs.declared.kinds.Sort.{Sort}
 use Rattle.record.specs.declared.origin.Origin.{Origin}
 use Rattle.fault_code.specs.Code.{dataOnlyCode, instructionCode, setRule, isvRule}
-use Rattle.rule.specs.Has.{sortRule, editionRule}
-use Rattle.rule.specs.Has.{recordClass, recordIl, lawful, has}
+use Rattle.rule.specs.Has.{sortRule, editionRule, lawful, has}
 use Rattle.rule.specs.Il.{ilRule}
+use Rattle.rule.proofs.Heads.{class-at, il-at}
 use Rattle.layout_rule.specs.Rule.{noSyndromeRule, aarch32Access, dataRule, errorType, errorRule, layoutRule}
 use Rattle.reason.specs.Reason.{someCode, someSet, someSyndrome, ruleTests, wordTests, whyOf}
 use Rattle.reason.proofs.Fits.{fits-at}
@@ -173,40 +172,16 @@ some-edition (Record.SError r) p =
     regroup e = rw (← and-assoc (eqb (r .code) 0) (eqb (r .aet) 0) (not (r .ea))) e
 some-edition (Record.System r) p = (0, refl, refl)
 
--- ---- the class and IL of the record at a word's bits
-
-pub add : {A B : Type 0} → A → B → A × B
-add a b = (a, b)
-
-module _ (w : ℕ) where
-  -- the record of a known class is of its own kind, has the class, and IL where the word has it
-  abbrev Headed : ℕ → Type 0
-  Headed c =
-      (headOf (recordOf c w) .own ≡ true) × (headOf (recordOf c w) .class ≡ c)
-      × (ilRule o c (bitOf w 24) (bitOf w 25) ≡ true → recordIl o (recordOf c w) ≡ true)
-
-  headed : (c : ℕ) → isClass o c ≡ true → Headed c
-  unfolding recordOf
-  headed =
-      among-each aarch32Classes Headed
-      (add (refl, refl, λ h. h) (add (refl, refl, λ h. h) (add (refl, refl, λ h. h) (add (refl, refl, λ h. h)
-      (add (refl, refl, λ h. h) (add (refl, refl, λ h. h) (add (refl, refl, λ h. h) (add (refl, refl, λ h. h)
-      (add (refl, refl, λ h. h) (add (refl, refl, λ h. h) (add (refl, refl, λ h. h) (add (refl, refl, λ h. h)
-      (add (refl, refl, λ h. h) (add (refl, refl, λ h. h) (add (refl, refl, λ h. h) (add (refl, refl, λ h. h)
-      (add (refl, refl, λ h. h) (add (refl, refl, λ h. h) (add (refl, refl, λ h. h) (add (refl, refl, λ h. h)
-      (add (refl, refl, λ h. h) (add (refl, refl, λ h. h) tt))))))))))))))))))))))
-
-  -- A WORD THAT BREAKS NO RULE is had by some edition
-  pub none-broken : isClass o (fieldOf w 31 26) ≡ true → ilRule o (fieldOf w 31 26) (bitOf w 24) (bitOf w 25) ≡ true → whyOf w ≡ 0
-      → (e : ℕ) × (isEdition e ≡ true) × ((eqb (recordWord (recordAt w)) w && has o e (recordAt w)) ≡ true)
-  unfolding whyOf has lawful
-  none-broken class il why =
-      let r = recordAt w in
-      let passed = all-passed (among ruleNumbers) refl (wordTests r w) (rule-numbers r) why in
-      let rules = passed .1 .1 in
-      let h = headed (fieldOf w 31 26) class in
-      let had = some-edition r rules in
-      let known : recordClass o r ≡ true = both (h .0) (ap (isClass o) (h .1) ∙ class) in
-      let allowed : (fitting (fieldsOf r) && layoutRule o r) ≡ true =
-      both (is-true (fitting (fieldsOf r)) (fits-at w)) (rules-lawful r rules) in
-      (had .0, had .2, both (passed .1 .0) (both (both (had .2) (both (both known (h .2 il)) allowed)) (had .1)))
+-- A WORD THAT BREAKS NO RULE is had by some edition
+pub none-broken : (w : ℕ) → isClass o (fieldOf w 31 26) ≡ true → ilRule o (fieldOf w 31 26) (bitOf w 24) (bitOf w 25) ≡ true → whyOf w ≡ 0
+    → (e : ℕ) × (isEdition e ≡ true) × ((eqb (recordWord (recordAt w)) w && has o e (recordAt w)) ≡ true)
+unfolding whyOf has lawful
+none-broken w class il why =
+    let r = recordAt w in
+    let passed = all-passed (among ruleNumbers) refl (wordTests r w) (rule-numbers r) why in
+    let rules = passed .1 .1 in
+    let had = some-edition r rules in
+    let heads = both (class-at w o class) (il-at w o class il) in
+    let allowed : (fitting (fieldsOf r) && layoutRule o r) ≡ true =
+    both (is-true (fitting (fieldsOf r)) (fits-at w)) (rules-lawful r rules) in
+    (had .0, had .2, both (passed .1 .0) (both (both (had .2) (both heads allowed)) (had .1)))

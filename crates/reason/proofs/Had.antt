@@ -27,9 +27,10 @@ use Rattle.layout_rule.specs.Rule.{noSyndromeRule, aarch32Access, validSyndrome
 use Rattle.fault_code.specs.Code.{everywhere, withLpa2, withoutRas, dataOnlyCode, instructionCode, dataCode, setRule, isvRule}
 use Rattle.rule.specs.Has.{editionRule, lawful, has}
 use Rattle.rule.proofs.Having.{has-layout}
+use Rattle.rule.proofs.Heads.{add}
 use Rattle.reason.specs.Reason.{someCode, someSet, someSyndrome, abortTests, accessTests, debugExceptions, ruleTests, wordTests}
 use Rattle.reason.specs.Reason.{whyOf}
-use Rattle.reason.proofs.Exact.{o, both, add}
+use Rattle.reason.proofs.Exact.{o, both}
 use Rattle.reason.proofs.Fits.{fits-at}
 
 -- ---- what an edition allows, some edition allows

@@ -2,12 +2,53 @@
 // alike, but for the calls.
 ghost use mathlib.Core.Path.{_≡_};
 ghost use Rattle.bits.specs.Among.{among};
-ghost use Rattle.record.specs.Class.{aarch32Classes, aarch64Classes, isClass, plainClasses, mcrClasses, mcrrClasses, callClasses};
+ghost use Rattle.record.specs.Class.{isClass, plainClasses, mcrClasses, mcrrClasses, callClasses};
 ghost use Rattle.record.specs.Class.{debugClasses, withoutIsv, headOf};
 use super::kinds::Head;
 use super::kinds::Record;
 use super::origin::Origin;
 use super::origin::from_aarch64;
+use bits::bit;
+
+// The classes from each origin: bit n is 1 where class n is in the build.
+const AARCH32_CLASSES: u64 = 1 << 0x00
+    | 1 << 0x01
+    | 1 << 0x03
+    | 1 << 0x04
+    | 1 << 0x05
+    | 1 << 0x06
+    | 1 << 0x07
+    | 1 << 0x08
+    | 1 << 0x0C
+    | 1 << 0x0E
+    | 1 << 0x11
+    | 1 << 0x12
+    | 1 << 0x13
+    | 1 << 0x20
+    | 1 << 0x22
+    | 1 << 0x24
+    | 1 << 0x2F
+    | 1 << 0x30
+    | 1 << 0x32
+    | 1 << 0x34
+    | 1 << 0x38
+    | 1 << 0x3A;
+
+const AARCH64_CLASSES: u64 = 1 << 0x00
+    | 1 << 0x01
+    | 1 << 0x07
+    | 1 << 0x0E
+    | 1 << 0x15
+    | 1 << 0x16
+    | 1 << 0x17
+    | 1 << 0x18
+    | 1 << 0x20
+    | 1 << 0x22
+    | 1 << 0x24
+    | 1 << 0x2F
+    | 1 << 0x30
+    | 1 << 0x32
+    | 1 << 0x34;
 
 pub fn plain_class(class: u32) -> bool
     ensures { λ r. ⌜ r ≡ among plainClasses class ⌝ }
@@ -44,61 +85,14 @@ fn debug_class(class: u32) -> bool
     (class == 0x30) | (class == 0x3A)
 }
 
-fn aarch32_class(class: u32) -> bool
-    ensures { λ r. ⌜ r ≡ among aarch32Classes class ⌝ }
-{
-    (class == 0x00)
-        | (class == 0x01)
-        | (class == 0x03)
-        | (class == 0x04)
-        | (class == 0x05)
-        | (class == 0x06)
-        | (class == 0x07)
-        | (class == 0x08)
-        | (class == 0x0C)
-        | (class == 0x0E)
-        | (class == 0x11)
-        | (class == 0x12)
-        | (class == 0x13)
-        | (class == 0x20)
-        | (class == 0x22)
-        | (class == 0x24)
-        | (class == 0x2F)
-        | (class == 0x30)
-        | (class == 0x32)
-        | (class == 0x34)
-        | (class == 0x38)
-        | (class == 0x3A)
-}
-
-fn aarch64_class(class: u32) -> bool
-    ensures { λ r. ⌜ r ≡ among aarch64Classes class ⌝ }
-{
-    (class == 0x00)
-        | (class == 0x01)
-        | (class == 0x07)
-        | (class == 0x0E)
-        | (class == 0x15)
-        | (class == 0x16)
-        | (class == 0x17)
-        | (class == 0x18)
-        | (class == 0x20)
-        | (class == 0x22)
-        | (class == 0x24)
-        | (class == 0x2F)
-        | (class == 0x30)
-        | (class == 0x32)
-        | (class == 0x34)
-}
-
 // Whether the class is among those of the trap's origin.
 pub fn is_class(origin: Origin, class: u32) -> bool
     ensures { λ r. ⌜ r ≡ isClass origin class ⌝ }
 {
     if from_aarch64(origin) {
-        aarch64_class(class)
+        bit(AARCH64_CLASSES, class)
     } else {
-        aarch32_class(class)
+        bit(AARCH32_CLASSES, class)
     }
 }
 

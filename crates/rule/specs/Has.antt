@@ -34,9 +34,12 @@ sortRule e (Sort.SError r) = errorCode e (r .code)
 abbrev pub editionRule : ℕ → Record → Bool
 editionRule e r = sortRule e (sortOf r)
 
--- what every edition asks alike
+-- what every edition asks alike: of the fields, and with class and IL
+abbrev pub fieldRule : Origin → Record → Bool
+fieldRule o r = fitting (fieldsOf r) && layoutRule o r
+
 unfoldable pub lawful : Origin → Record → Bool
-lawful o r = recordClass o r && recordIl o r && (fitting (fieldsOf r) && layoutRule o r)
+lawful o r = recordClass o r && recordIl o r && fieldRule o r
 
 unfoldable pub has : Origin → ℕ → Record → Bool
 has o e r = isEdition e && lawful o r && editionRule e r
@@ -44,3 +47,7 @@ has o e r = isEdition e && lawful o r && editionRule e r
 -- the mask of the editions that have a record
 abbrev pub editionsOf : Origin → Record → ℕ
 editionsOf o r = maskOf (λ e. has o e r)
+
+-- and of those that allow its fields, whatever its class and IL
+abbrev pub allowedOf : Origin → Record → ℕ
+allowedOf o r = maskOf (λ e. fieldRule o r && editionRule e r)

@@ -2,5 +2,6 @@
 mod had;
 mod il;
 
+pub use had::allowed;
 pub use had::editions;
 pub use il::il_rule;

@@ -3,9 +3,11 @@
 // A word has one record, whatever the edition: what stands at the bits of its class. A record has one set of editions, its mask. An
 // edition only asks whether its bit stands in the mask.
 ghost use mathlib.Core.Path.{_≡_};
+ghost use mathlib.Core.Bool.{true};
 ghost use Rattle.edition.specs.Mask.{maskOf};
+ghost use Rattle.record.specs.Split.{recordAt};
 ghost use Rattle.syndrome.specs.Inner.{makes};
-ghost use Rattle.syndrome.specs.Tests.{wordIl};
+ghost use Rattle.syndrome.specs.Tests.{classKnown, wordIl};
 ghost use Rattle.syndrome.specs.Reading.{Reading};
 ghost use Rattle.syndrome.specs.Writing.{Writing};
 ghost use Rattle.syndrome.specs.Carry.{Carrying, Rewriting};
@@ -21,12 +23,14 @@ use record::Esr;
 use record::Origin;
 use record::Record;
 
-// The editions that have a record which is to make the word: none where some bit of the word is not the record's.
+// The editions that have the record at the word's bits, where the word's class and IL are right: none where some bit of the word is not the
+// record's.
 fn word_editions(origin: Origin, r: Record, word: u64) -> u32
+    requires { ⌜ (r ≡ recordAt word) × (classKnown origin word ≡ true) × (wordIl origin word ≡ true) ⌝ }
     ensures { λ m. ⌜ m ≡ maskOf (λ e. makes origin e r word) ⌝ }
 {
     if layout::joined(r) == word {
-        rule::editions(origin, r)
+        rule::allowed(origin, r)
     } else {
         0
     }
@@ -82,7 +86,7 @@ pub fn write(origin: Origin, edition: u32, r: Record) -> Written
     if !rule::il_rule(origin, h.class, h.isv, h.il) {
         return Written::Refused(Refusal::ShortInstruction);
     }
-    match edition::judge(edition, rule::editions(origin, r)) {
+    match edition::judge(edition, rule::allowed(origin, r)) {
         Verdict::Taken => Written::Word(Esr(layout::joined(r))),
         Verdict::Refused(refusal) => Written::Refused(refusal),
     }

@@ -90,7 +90,17 @@ record-at-requires : tie.Need-record-at-requires
 record-at-requires c κs = search needs
 
 word-editions-requires : tie.Need-word-editions-requires
-word-editions-requires c κs = search needs
+word-editions-requires c κs =
+    let long = c .before in
+    let class = long .before .before in
+    let clear = class .before .before .before in
+    let known = clear .before .before in
+    let a = known .before .before .args in (
+      c .record-at .ensures,
+      sym (class .before .is-class .ensures ∙ ap (isClass (a .origin)) (class .before .before .field32 .ensures))
+          ∙ not-false _ (class .if3 .left),
+      sym (long .before .word-il .ensures) ∙ not-false _ (long .if4 .left),
+    )
 
 judge-requires : tie.Need-judge-requires
 judge-requires c κs = search needs

@@ -5,6 +5,7 @@ use mathlib.Core.Path.{_∙_, sym, ap}
 use mathlib.Core.Bool.{Bool, cond}
 use borrow.Author.Tests.{eq-eqb, ne-eqb}
 use Rattle.rule.specs.Has.{editionsOf}
+use Rattle.rule.proofs.Heads.{allowed-at}
 use Rattle.syndrome.proofs.Steps.{makes-mask}
 use Rattle.syndrome.proofs.word_editions.Statement.{statement}
 use Rattle.syndrome.proofs.word_editions.Tie as tie
@@ -12,13 +13,15 @@ use Rattle.syndrome.proofs.word_editions.Tie as tie
 joined-requires : tie.Need-joined-requires
 joined-requires c κs = search needs
 
-editions-requires : tie.Need-editions-requires
-editions-requires c κs = search needs
+allowed-requires : tie.Need-allowed-requires
+allowed-requires c κs = search needs
 
 returns : tie.Need-returns
 returns c =
     let a = c .before .before .before .args in
-    c .editions .ensures ∙ ap (λ (b : Bool). cond b (editionsOf (a .origin) (a .r)) 0)
+    let pre = c .before .before .before .pre in
+    c .allowed .ensures ∙ allowed-at (a .word) (a .origin) (pre .1) (pre .2) (a .r) (pre .0)
+    ∙ ap (λ (b : Bool). cond b (editionsOf (a .origin) (a .r)) 0)
     (sym (eq-eqb _ _ (sym (c .before .before .joined .ensures) ∙ c .before .if1 .taken)))
     ∙ makes-mask (a .origin) (a .r) (a .word)
 
@@ -29,4 +32,4 @@ returns-2 c =
     ∙ makes-mask (a .origin) (a .r) (a .word)
 
 pub word-editions-spec : {M : Type 1} → statement M
-word-editions-spec = tie.close (tie.spec joined-requires editions-requires returns returns-2)
+word-editions-spec = tie.close (tie.spec joined-requires allowed-requires returns returns-2)

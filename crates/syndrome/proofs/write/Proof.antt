@@ -15,7 +15,8 @@ use Rattle.record.specs.declared.origin.Origin.{Origin}
 use Rattle.record.specs.declared.kinds.Head.{Head}
 use Rattle.record.specs.declared.kinds.Record.{Record}
 use Rattle.rule.specs.Il.{ilRule}
-use Rattle.rule.specs.Has.{recordClass, recordIl, editionsOf}
+use Rattle.rule.specs.Has.{recordClass, recordIl, allowedOf}
+use Rattle.rule.proofs.Heads.{allowed-had}
 use Rattle.syndrome.specs.Writing.{writeOf}
 use Rattle.syndrome.specs.declared.answer.Written.{Written}
 use Rattle.syndrome.proofs.Steps.{writeVerdict, write-unknown, write-class, write-short, write-judged, joined-taken}
@@ -35,14 +36,16 @@ own-il o r same l b = sym (l ∙ ap (λ (x : Head). ilRule o (x .class) (x .isv)
 
 module _ (o : Origin) (e : ℕ) (r : Record) (k : isEdition e ≡ true) (w : recordClass o r ≡ true) (l : recordIl o r ≡ true) where
   -- what the code makes of a verdict that it came to
-  judged : {m : ℕ} {came verdict : Verdict} → m ≡ editionsOf o r → came ≡ judgeOf e m → came ≡ verdict
+  judged : {m : ℕ} {came verdict : Verdict} → m ≡ allowedOf o r → came ≡ judgeOf e m → came ≡ verdict
       → writeVerdict (recordWord r) verdict ≡ writeOf o e r
-  judged mask judge same = sym (write-judged o e r k w l ∙ ap (writeVerdict (recordWord r)) (ap (judgeOf e) (sym mask) ∙ sym judge ∙ same))
+  judged mask judge same =
+      sym (write-judged o e r k w l
+      ∙ ap (writeVerdict (recordWord r)) (ap (judgeOf e) (sym (mask ∙ allowed-had o r w l)) ∙ sym judge ∙ same))
 
-  joined : {w m : ℕ} {came : Verdict} → w ≡ joinedFrom 0 (fieldsOf r) → m ≡ editionsOf o r → came ≡ judgeOf e m → came ≡ Verdict.Taken
+  joined : {w m : ℕ} {came : Verdict} → w ≡ joinedFrom 0 (fieldsOf r) → m ≡ allowedOf o r → came ≡ judgeOf e m → came ≡ Verdict.Taken
       → Written.Word (record { 0 = w }) ≡ writeOf o e r
   joined made mask judge same =
-      ap (λ (w : ℕ). Written.Word (record { 0 = w })) (made ∙ joined-taken o e r k (ap (judgeOf e) (sym mask) ∙ sym judge ∙ same))
+      ap (λ (w : ℕ). Written.Word (record { 0 = w })) (made ∙ joined-taken o e r k (ap (judgeOf e) (sym (mask ∙ allowed-had o r w l)) ∙ sym judge ∙ same))
       ∙ judged mask judge same
 
 head-requires : tie.Need-head-requires
@@ -83,8 +86,8 @@ returns-3 c =
     (own-class (a .origin) (a .r) (head .head .ensures) (own .before .before .is-class .ensures) (not-false _ (own .if2 .left)))
     (own-il (a .origin) (a .r) (head .head .ensures) (c .before .il-rule .ensures) (not-true _ (c .if3 .taken)))))
 
-editions-requires : tie.Need-editions-requires
-editions-requires c κs = search needs
+allowed-requires : tie.Need-allowed-requires
+allowed-requires c κs = search needs
 
 judge-requires : tie.Need-judge-requires
 judge-requires c κs = search needs
@@ -110,7 +113,7 @@ returns-4 c =
     (joined (a .origin) (a .edition) (a .r) (sym (known .before .known .ensures) ∙ not-false _ (known .if1 .left))
     (own-class (a .origin) (a .r) (head .head .ensures) (own .before .before .is-class .ensures) (not-false _ (own .if2 .left)))
     (own-il (a .origin) (a .r) (head .head .ensures) (long .before .il-rule .ensures) (not-false _ (long .if3 .left))) (c .joined .ensures)
-    (at .before .editions .ensures)
+    (at .before .allowed .ensures)
     (at .judge .ensures) (c .before .enum-told .given .1))
 
 returns-5 : tie.Need-returns-5
@@ -125,7 +128,7 @@ returns-5 c =
     (judged (a .origin) (a .edition) (a .r) (sym (known .before .known .ensures) ∙ not-false _ (known .if1 .left))
     (own-class (a .origin) (a .r) (head .head .ensures) (own .before .before .is-class .ensures) (not-false _ (own .if2 .left)))
     (own-il (a .origin) (a .r) (head .head .ensures) (long .before .il-rule .ensures) (not-false _ (long .if3 .left)))
-    (at .before .editions .ensures) (at .judge .ensures)
+    (at .before .allowed .ensures) (at .judge .ensures)
     (c .before .refusal .given .1))
 
 pub write-spec : {M : Type 1} → statement M
@@ -139,7 +142,7 @@ write-spec =
     returns-2
     il-rule-requires
     returns-3
-    editions-requires
+    allowed-requires
     judge-requires
     enum-told
     joined-requires
