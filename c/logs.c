@@ -37,33 +37,46 @@ static uint64_t number(int count)
     return n;
 }
 
-/* A list is its length, how many of its entries follow, and these; the others are as the list has them. */
-static uint64_t given(uint64_t *length, uint64_t room)
+/* Whether a list of the question has no room. */
+static int no_room;
+
+/* A list is its length, how many of its entries follow, and these; the others are as the list has them. Entries that have no room are passed
+   over. */
+static uint64_t given(uint64_t *length, uint64_t room, int size)
 {
     *length = number(4);
     uint64_t count = number(4);
-    if (*length > room || count > room) exit(2);
-    return count;
+    if (*length <= room && count <= room) return count;
+    no_room = 1;
+    while (count-- > 0) number(size);
+    return 0;
+}
+
+/* Answers a question that can't be asked. */
+static int no_row(void)
+{
+    if (no_room) puts("no row");
+    return no_room;
 }
 
 static void bytes(struct bytes *list, int unwritten)
 {
     memset(list->at, unwritten, sizeof list->at);
-    uint64_t count = given(&list->length, BYTES);
+    uint64_t count = given(&list->length, BYTES, 1);
     for (uint64_t i = 0; i < count; i++) list->at[i] = (uint8_t)number(1);
 }
 
 static void words(struct words *list)
 {
     memset(list->at, 0, sizeof list->at);
-    uint64_t count = given(&list->length, WORDS);
+    uint64_t count = given(&list->length, WORDS, 8);
     for (uint64_t i = 0; i < count; i++) list->at[i] = number(8);
 }
 
 static void halves(struct halves *list)
 {
     memset(list->at, 0, sizeof list->at);
-    uint64_t count = given(&list->length, HALVES);
+    uint64_t count = given(&list->length, HALVES, 2);
     for (uint64_t i = 0; i < count; i++) list->at[i] = (uint16_t)number(2);
 }
 
@@ -87,6 +100,7 @@ static void read_question(void)
 {
     struct knucklepin_log_answer answer;
     bytes(&log_bytes, 0);
+    if (no_row()) return;
     uint32_t refusal = knucklepin_log_read(log_bytes.at, log_bytes.length, &answer);
     /* The reader that holds the log answers the same. */
     static const char *const READERS[] = {"read", "held"};
@@ -105,6 +119,7 @@ static void look_question(void)
     bytes(&log_bytes, 0);
     uint32_t passed = (uint32_t)number(4);
     uint64_t i = number(4);
+    if (no_row()) return;
     knucklepin_log_look(log_bytes.at, log_bytes.length, passed, i, &found);
     if (found.whole != 0)
         printf("look whole %" PRIu64 " %" PRIu64, found.count, 4 + found.count * (passed < 4 ? SIZES[passed] : 0));
@@ -154,6 +169,7 @@ static void again_question(void)
     uint64_t length = 0;
     bytes(&log_bytes, 0);
     bytes(&buffer, 0xa5);
+    if (no_row()) return;
     uint32_t refusal = knucklepin_log_read(log_bytes.at, log_bytes.length, &answer);
     if (refusal == KNUCKLEPIN_TAKEN) {
         editions.length = count_of(0);
@@ -186,6 +202,7 @@ static void write_question(void)
     words(&hpfars);
     halves(&injections);
     bytes(&buffer, 0xa5);
+    if (no_row()) return;
     uint32_t refusal = write_lists(&length);
     printf("write %" PRIu32 " %" PRIu64, refusal, length);
     show(&buffer);
@@ -194,6 +211,7 @@ static void write_question(void)
 int main(void)
 {
     for (int letter = getchar(); letter != EOF; letter = getchar()) {
+        no_room = 0;
         switch (letter) {
         case 'r': read_question(); break;
         case 'l': look_question(); break;

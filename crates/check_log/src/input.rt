@@ -1,8 +1,9 @@
 // What a question asks about, from standard input. Where the input has ended, every number is 0.
 //
-// A list is its length, how many of its entries follow, and these. The others are as the buffer has them.
-ghost use mathlib.Core.Path.{_≡_};
-ghost use Prim.Native.Nat.{min};
+// A list is its length, how many of its entries follow, and these. The others are as the buffer has them. Of a list that has no room in the
+// buffer a number above the room is given.
+ghost use Prim.Native.Nat.{_≤_};
+ghost use lib.ListN.{length};
 use libc::STDIN_FILENO;
 
 // The next byte, or 0 at the end.
@@ -40,36 +41,45 @@ fn word() -> u64 {
     both(low, high)
 }
 
+// Passes over so many entries, each as long as the space that is lent for it.
+fn skip(entry: &mut [u8], entries: usize) {
+    let mut left = entries;
+    while left > 0 {
+        if io::read_full(STDIN_FILENO, entry) < entry.len() {
+            break;
+        }
+        left -= 1;
+    }
+}
+
 // Reads a list of bytes to the front of a buffer, and gives its length.
 pub fn bytes(space: &mut [u8]) -> usize {
     let length = number() as usize;
     let given = number() as usize;
     if space.len() < given {
-        return 0;
+        let mut entry = [0u8; 1];
+        skip(&mut entry, given);
+        return given;
     }
     io::read_full(STDIN_FILENO, &mut space[0..given]);
     length
 }
 
-fn least(a: usize, b: usize) -> usize
-    ensures { λ n. ⌜ n ≡ min a b ⌝ }
+fn fill(space: &mut [u64], given: usize)
+    requires { ⌜ given ≤ length (now space) ⌝ }
 {
-    if a < b { a } else { b }
-}
-
-fn fill(space: &mut [u64], given: usize) {
-    let n = least(given, space.len());
     let mut i = 0;
-    while i < n {
+    while i < given {
         space[i] = word();
         i += 1;
     }
 }
 
-fn fill_halves(space: &mut [u16], given: usize) {
-    let n = least(given, space.len());
+fn fill_halves(space: &mut [u16], given: usize)
+    requires { ⌜ given ≤ length (now space) ⌝ }
+{
     let mut i = 0;
-    while i < n {
+    while i < given {
         space[i] = half();
         i += 1;
     }
@@ -79,6 +89,11 @@ fn fill_halves(space: &mut [u16], given: usize) {
 pub fn halves(space: &mut [u16]) -> usize {
     let length = number() as usize;
     let given = number() as usize;
+    if space.len() < given {
+        let mut entry = [0u8; 2];
+        skip(&mut entry, given);
+        return given;
+    }
     fill_halves(space, given);
     length
 }
@@ -87,6 +102,11 @@ pub fn halves(space: &mut [u16]) -> usize {
 pub fn words(space: &mut [u64]) -> usize {
     let length = number() as usize;
     let given = number() as usize;
+    if space.len() < given {
+        let mut entry = [0u8; 8];
+        skip(&mut entry, given);
+        return given;
+    }
     fill(space, given);
     length
 }

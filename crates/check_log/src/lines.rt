@@ -14,6 +14,11 @@ fn put(line: &[u8], end: usize) {
     }
 }
 
+// To a question with a list that has no room.
+pub fn no_row() {
+    io::write_all(STDOUT_FILENO, b"no row\n");
+}
+
 pub fn read(word: &[u8], answer: Read) {
     let mut line = [0u8; 80];
     let start = text::append(&mut line, 0, word);

@@ -1,7 +1,8 @@
 // Answers the second program's questions on logs (second/src/log/questions.rs).
 //
 // A question is a letter and what it asks about: a log to be read, `r`, also by the reader that holds it; a log and a place in it, `l`; a
-// log to be written again into a buffer, `a`; lists to be written into a buffer, `w`. A buffer is shown whole, whatever the answer.
+// log to be written again into a buffer, `a`; lists to be written into a buffer, `w`. A buffer is shown whole, whatever the answer. A question
+// with a list that has no room is answered by `no row`.
 mod held;
 mod input;
 mod labelled;
@@ -20,6 +21,10 @@ const UNWRITTEN: u8 = 165;
 fn read_question() {
     let mut space = [0u8; BYTES];
     let n = input::bytes(&mut space);
+    if n > BYTES {
+        lines::no_row();
+        return;
+    }
     let log = input::first_bytes(&space, n);
     lines::read(b"read ", log::read(log));
     lines::read(b"held ", held::read(log));
@@ -28,9 +33,13 @@ fn read_question() {
 fn look_question() {
     let mut space = [0u8; BYTES];
     let n = input::bytes(&mut space);
-    let log = input::first_bytes(&space, n);
     let passed = input::number();
     let entry = input::number();
+    if n > BYTES {
+        lines::no_row();
+        return;
+    }
+    let log = input::first_bytes(&space, n);
     lines::look(held::look(log, passed, entry as usize));
 }
 
@@ -39,6 +48,10 @@ fn again_question() {
     let mut buffer = [UNWRITTEN; BYTES];
     let n = input::bytes(&mut space);
     let room = input::bytes(&mut buffer);
+    if (n > BYTES) | (room > BYTES) {
+        lines::no_row();
+        return;
+    }
     let log = input::first_bytes(&space, n);
     let out = input::front(&mut buffer, room);
     let answer = log_rewrite::rewrite(log, out);
@@ -58,6 +71,10 @@ fn write_question() {
     let h = input::words(&mut hpfars);
     let i = input::halves(&mut injections);
     let room = input::bytes(&mut buffer);
+    if (e > BYTES) | (s > WORDS) | (f > WORDS) | (h > WORDS) | (i > HALVES) | (room > BYTES) {
+        lines::no_row();
+        return;
+    }
     let out = input::front(&mut buffer, room);
     let answer = labelled::write(
         input::first_bytes(&editions, e),

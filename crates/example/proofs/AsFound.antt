@@ -28,6 +28,7 @@ use Rattle.trap.specs.Trap.{recordIn}
 use Rattle.trap.specs.declared.Answer.{Answer}
 use Rattle.example.specs.declared.Next.the-variants.{Resume, Refused}
 use Rattle.example.specs.declared.way.Way.{Way}
+use Rattle.example.specs.Seen.{seenOf}
 use Rattle.example.specs.Way.{wayOf}
 use Rattle.example.specs.Gone.{byNumber, byAccess, injecting, finishing, stepping, byDescription, describing, gone}
 use Rattle.example.specs.Answered.{byReading, answered}
@@ -77,4 +78,4 @@ module _ (s : Guest) where
     where
       by : (a : Answer) → AsFound s (byReading s word value a)
       by (Answer.Refused refusal) = refl
-      by (Answer.Shown t) = by-way (recordIn t) word value (wayOf (s .status) t)
+      by (Answer.Shown t) = by-way (recordIn t) word value (wayOf (s .status) (seenOf t))

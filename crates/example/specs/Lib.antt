@@ -1,5 +1,5 @@
 -- A monitor's answer to a trap, and what it leaves of the guest.
-pub mod Card
+pub mod Seen
 pub mod Way
 pub mod Gone
 pub mod Answered

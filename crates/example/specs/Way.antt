@@ -5,25 +5,16 @@ use mathlib.Core.Bool.{Bool, cond}
 use mathlib.Core.List.{[], _∷_}
 use lib.Dec.{eqb}
 use Rattle.bits.specs.Among.{among}
-use Rattle.address.specs.declared.VirtualAddress.{VirtualAddress}
 use Rattle.fault.specs.declared.Fault.{Fault}
 use Rattle.guest.specs.declared.injection.Injection.{Injection}
 use Rattle.guest.specs.declared.injection.Injection.the-variants.{UndefinedAt, UndefinedAfter, SupervisorCall, PrefetchAbort, DataAbort}
 use Rattle.record.specs.Class.{headOf}
 use Rattle.record.specs.Sort.{sortOf}
-use Rattle.record.specs.declared.kinds.DataAbort as DataAbort
 use Rattle.record.specs.declared.kinds.Sort.{Sort}
 use Rattle.step.specs.Condition.{passes}
-use Rattle.trap.specs.Trap.{recordIn, virtualIn, intermediateIn}
-use Rattle.trap.specs.declared.Trap.{Trap}
+use Rattle.example.specs.declared.way.Seen.{Seen}
 use Rattle.example.specs.declared.way.Way.{Way}
 use Rattle.example.specs.declared.way.Way.the-variants.{Inject, Finish, Describe, StepOver, Leave}
-use Rattle.example.specs.Card.{atCard}
-
--- the address that the guest is told: FAR, where it is known
-abbrev pub told : VirtualAddress → ℕ
-told (VirtualAddress.Known far) = far
-told VirtualAddress.Unknown = 0
 
 -- a fault is external to the guest: its own tables didn't cause it
 abbrev pub fetchAbort : ℕ → Injection
@@ -34,9 +25,9 @@ accessAbort write address = DataAbort record { fault = Fault.External; address =
 
 -- 0x24: at the card a cache maintenance operation (CM 1) is stepped over, and an access is finished where the chip described it (ISV 1);
 -- elsewhere the guest gets the abort
-abbrev pub dataWay : Bool → ℕ → DataAbort.DataAbort → Way
-dataWay card address r =
-    cond card (cond (r .cm) StepOver (cond (r .isv) Finish (Describe (accessAbort (r .wnr) address)))) (Inject (accessAbort (r .wnr) address))
+abbrev pub dataWay : Bool → ℕ → Bool → Bool → Bool → Way
+dataWay card address cm isv write =
+    cond card (cond cm StepOver (cond isv Finish (Describe (accessAbort write address)))) (Inject (accessAbort write address))
 
 -- the classes without an address: WFI and WFE; SVC; HVC; breakpoint, software step, BKPT and vector catch, which are the debugger's; and all
 -- that the monitor doesn't do for the guest, which is undefined to it
@@ -53,12 +44,10 @@ abbrev pub sortWay : ℕ → Bool → ℕ → Sort → Way
 sortWay class card address Sort.Plain = plainWay class
 sortWay class card address Sort.Addressed = cond (eqb class 0x22) (Inject (fetchAbort address)) Leave
 sortWay class card address (Sort.InstructionAbort r) = Inject (fetchAbort address)
-sortWay class card address (Sort.DataAbort r) = dataWay card address r
+sortWay class card address (Sort.DataAbort r) = dataWay card address (r .cm) (r .isv) (r .wnr)
 sortWay class card address (Sort.SError r) = Leave
 
 -- an instruction whose condition fails does nothing, whatever its class
-unfoldable pub wayOf : ℕ → Trap → Way
+unfoldable pub wayOf : ℕ → Seen → Way
 wayOf status t =
-    cond (passes status (recordIn t))
-    (sortWay (headOf (recordIn t) .class) (atCard (intermediateIn t)) (told (virtualIn t)) (sortOf (recordIn t)))
-    StepOver
+    cond (passes status (t .what)) (sortWay (headOf (t .what) .class) (t .card) (t .address) (sortOf (t .what))) StepOver

@@ -142,12 +142,10 @@ pub fn answer(
                 state,
             }
         }
-        trap::Answer::Shown(shown) => gone(
-            state,
-            way::way_of(state.status, shown),
-            way::record_in(shown),
-            word,
-            value,
-        ),
+        trap::Answer::Shown(shown) => {
+            let seen = way::seen_in(shown);
+            let what = seen.what;
+            gone(state, way::way_of(state.status, seen), what, word, value)
+        }
     }
 }

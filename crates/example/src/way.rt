@@ -1,19 +1,24 @@
 // How the guest goes on after a trap: README's table 'After the trap, class by class', for a monitor with one emulated card and no other work
 // of its own.
 ghost use mathlib.Core.Path.{_≡_};
-ghost use Rattle.trap.specs.Trap.{recordIn, virtualIn, intermediateIn};
-ghost use Rattle.example.specs.Card.{atCard};
-ghost use Rattle.example.specs.Way.{told, dataWay, plainWay, sortWay, wayOf};
+ghost use Rattle.example.specs.Seen.{atCard, told, seenOf};
+ghost use Rattle.example.specs.Way.{dataWay, plainWay, sortWay, wayOf};
 use address::IntermediateAddress;
 use address::VirtualAddress;
 use fault::Fault;
 use guest::Access;
 use guest::Fetch;
 use guest::Injection;
-use record::DataAbort;
 use record::Record;
 use record::Sort;
 use trap::Trap;
+
+// What the monitor asks of a trap: its record, whether it is an access at the card, and the address that the guest is told.
+pub(crate) struct Seen {
+    pub(crate) what: Record,
+    pub(crate) card: bool,
+    pub(crate) address: u64,
+}
 
 pub(crate) enum Way {
     // It gets an exception.
@@ -41,27 +46,8 @@ fn at_card(place: IntermediateAddress) -> bool
     }
 }
 
-pub(crate) fn record_in(trap: Trap) -> Record
-    ensures { λ r. ⌜ r ≡ recordIn trap ⌝ }
-{
-    match trap {
-        Trap::Abort(t) => t.syndrome,
-        Trap::Addressed(t) => t.syndrome,
-        Trap::Plain(r) => r,
-    }
-}
-
-fn intermediate_in(trap: Trap) -> IntermediateAddress
-    ensures { λ r. ⌜ r ≡ intermediateIn trap ⌝ }
-{
-    match trap {
-        Trap::Abort(t) => t.intermediate,
-        Trap::Addressed(_) => IntermediateAddress::None,
-        Trap::Plain(_) => IntermediateAddress::None,
-    }
-}
-
-fn far_of(address: VirtualAddress) -> u64
+// The address that the guest is told: FAR, where it is known.
+fn told(address: VirtualAddress) -> u64
     ensures { λ r. ⌜ r ≡ told address ⌝ }
 {
     match address {
@@ -70,38 +56,54 @@ fn far_of(address: VirtualAddress) -> u64
     }
 }
 
-// The address that the guest is told: FAR, where it is known.
-fn told(trap: Trap) -> u64
-    ensures { λ r. ⌜ r ≡ told (virtualIn trap) ⌝ }
+pub(crate) fn seen_in(trap: Trap) -> Seen
+    ensures { λ r. ⌜ r ≡ seenOf trap ⌝ }
 {
     match trap {
-        Trap::Abort(t) => {
-            let address = t.address;
-            far_of(address)
+        Trap::Abort(abort) => {
+            let what = abort.syndrome;
+            let place = abort.intermediate;
+            let address = abort.address;
+            Seen {
+                what,
+                card: at_card(place),
+                address: told(address),
+            }
         }
-        Trap::Addressed(t) => t.address,
-        Trap::Plain(_) => 0,
+        Trap::Addressed(at) => {
+            let what = at.syndrome;
+            Seen {
+                what,
+                card: false,
+                address: at.address,
+            }
+        }
+        Trap::Plain(what) => Seen {
+            what,
+            card: false,
+            address: 0,
+        },
     }
 }
 
-// A data abort.
-fn data_way(card: bool, address: u64, abort: DataAbort) -> Way
-    ensures { λ r. ⌜ r ≡ dataWay card address abort ⌝ }
+// A data abort, by CM, ISV and WnR.
+fn data_way(card: bool, address: u64, cm: bool, isv: bool, write: bool) -> Way
+    ensures { λ r. ⌜ r ≡ dataWay card address cm isv write ⌝ }
 {
-    let what = Injection::DataAbort(Access {
+    let abort = Injection::DataAbort(Access {
         fault: Fault::External,
         address,
-        write: abort.wnr,
+        write,
         domain: 0,
     });
     if !card {
-        Way::Inject(what)
-    } else if abort.cm {
+        Way::Inject(abort)
+    } else if cm {
         Way::StepOver
-    } else if abort.isv {
+    } else if isv {
         Way::Finish
     } else {
-        Way::Describe(what)
+        Way::Describe(abort)
     }
 }
 
@@ -135,24 +137,19 @@ fn sort_way(class: u32, card: bool, address: u64, sort: Sort) -> Way
             }
         }
         Sort::InstructionAbort(_) => Way::Inject(fetch),
-        Sort::DataAbort(abort) => data_way(card, address, abort),
+        Sort::DataAbort(abort) => data_way(card, address, abort.cm, abort.isv, abort.wnr),
         Sort::SError(_) => Way::Leave,
     }
 }
 
 // The way of a trap, in a guest with this status word. An instruction whose condition fails does nothing.
-pub(crate) fn way_of(status: u32, trap: Trap) -> Way
-    ensures { λ r. ⌜ r ≡ wayOf status trap ⌝ }
+pub(crate) fn way_of(status: u32, seen: Seen) -> Way
+    ensures { λ r. ⌜ r ≡ wayOf status seen ⌝ }
 {
-    let record = record_in(trap);
-    if !step::passes(status, record) {
+    let what = seen.what;
+    if !step::passes(status, what) {
         return Way::StepOver;
     }
-    let top = record::head(record);
-    sort_way(
-        top.class,
-        at_card(intermediate_in(trap)),
-        told(trap),
-        record::sort(record),
-    )
+    let top = record::head(what);
+    sort_way(top.class, seen.card, seen.address, record::sort(what))
 }

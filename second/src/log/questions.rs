@@ -125,6 +125,11 @@ enum Question {
 /// What the bytes of a buffer are that don't follow in a question.
 const UNWRITTEN: u8 = 0xa5;
 
+/// How many bytes, words and injections a list of a question may have.
+const BYTES: usize = 70_000;
+const WORDS: usize = 8_200;
+const INJECTIONS: usize = 33_000;
+
 /// A list in a question: how many entries it has, how many of them follow, and these,
 /// in so many bytes each. Those that don't follow are all the same.
 fn list<const N: usize>(entries: impl Iterator<Item = [u8; N]>, others: u8) -> Vec<u8> {
@@ -176,8 +181,25 @@ impl Question {
         }
     }
 
+    /// Whether the program has room for each of its lists.
+    fn has_room(&self) -> bool {
+        match self {
+            Question::Read { log } | Question::Look { log, .. } => log.len() <= BYTES,
+            Question::Again { log, buffer } => log.len().max(buffer.len()) <= BYTES,
+            Question::Write { lists, buffer } => {
+                let Lists { editions, syndromes, fars, hpfars, injections } = lists;
+                editions.len().max(buffer.len()) <= BYTES
+                    && [syndromes, fars, hpfars].iter().all(|words| words.len() <= WORDS)
+                    && injections.len() <= INJECTIONS
+            }
+        }
+    }
+
     /// What the program writes for it. A buffer is shown whole, whatever the answer.
     fn answer(&self) -> String {
+        if !self.has_room() {
+            return "no row\n".into();
+        }
         match self {
             Question::Read { log } => {
                 let line = first_line(&read(log));
@@ -397,8 +419,45 @@ fn lengths(choices: &[usize]) -> Vec<(usize, usize, usize)> {
     all
 }
 
+/// Lists that just have room and that have one entry too many, none of which follow; and of each
+/// size of an entry a list of which they all follow.
+fn rooms() -> Vec<Question> {
+    let mut asked = Vec::new();
+    let lists = Lists::default;
+    for over in [0, 1] {
+        let log = vec![0; BYTES + over];
+        let buffer = vec![UNWRITTEN; BYTES + over];
+        let words = vec![0; WORDS + over];
+        let small = vec![UNWRITTEN; 16];
+        asked.push(Question::Read { log: log.clone() });
+        asked.push(Question::Look { log: log.clone(), passed: 3, entry: 0 });
+        asked.push(Question::Again { log: log.clone(), buffer: small.clone() });
+        asked.push(Question::Again { log: vec![0; 16], buffer: buffer.clone() });
+        asked.push(Question::Write { lists: lists(), buffer });
+        for lists in [
+            Lists { editions: log, ..lists() },
+            Lists { syndromes: words.clone(), ..lists() },
+            Lists { fars: words.clone(), ..lists() },
+            Lists { hpfars: words, ..lists() },
+            Lists { injections: vec![(0, 0); INJECTIONS + over], ..lists() },
+        ] {
+            asked.push(Question::Write { lists, buffer: small.clone() });
+        }
+    }
+    let follow = [
+        Lists { editions: vec![b'r'; BYTES + 1], ..lists() },
+        Lists { syndromes: vec![u64::MAX; WORDS + 1], ..lists() },
+        Lists { injections: vec![(b'w', 0); INJECTIONS + 1], ..lists() },
+    ];
+    for lists in follow {
+        asked.push(Question::Write { lists, buffer: vec![UNWRITTEN; 16] });
+        asked.push(Question::Read { log: bytes(&example()) });
+    }
+    asked
+}
+
 fn questions() -> Vec<Question> {
-    [reads(), looks(), agains(), writes()].concat()
+    [reads(), looks(), agains(), writes(), rooms()].concat()
 }
 
 /// The program's input, and what it must write.

@@ -1,17 +1,17 @@
 -- `example::answer` meets its contract: what the trap's reading was, its answer is.
-use mathlib.Core.Path.{_≡_, sym, ap, ap₂, _∙_}
+use mathlib.Core.Path.{_≡_, sym, ap, _∙_}
 use Prim.Native.Nat.{ℕ}
 use borrow.Author.Needs.{needs}
 use Rattle.record.specs.declared.origin.Origin.{Origin}
 use Rattle.record.specs.declared.kinds.Esr.{Esr}
-use Rattle.record.specs.declared.kinds.Record.{Record}
 use Rattle.address.specs.declared.Far.{Far}
 use Rattle.address.specs.declared.Hpfar.{Hpfar}
 use Rattle.exception.specs.declared.state.Guest.{Guest}
 use Rattle.trap.specs.Answer.{answerOf}
 use Rattle.trap.specs.declared.Answer.{Answer}
 use Rattle.example.specs.declared.Next.{Next}
-use Rattle.example.specs.declared.way.Way.{Way}
+use Rattle.example.specs.declared.way.Seen.{Seen}
+use Rattle.example.specs.Way.{wayOf}
 use Rattle.example.specs.Gone.{gone}
 use Rattle.example.specs.Answered.{byReading, answered}
 use Rattle.example.proofs.Calls.{answering}
@@ -35,11 +35,11 @@ number-requires c κs = search needs
 enum-known-shown : tie.Need-enum-known-shown
 enum-known-shown c = search needs
 
+seen-in-requires : tie.Need-seen-in-requires
+seen-in-requires c κs = search needs
+
 way-of-requires : tie.Need-way-of-requires
 way-of-requires c κs = search needs
-
-record-in-requires : tie.Need-record-in-requires
-record-in-requires c κs = search needs
 
 gone-requires : tie.Need-gone-requires
 gone-requires c κs = search needs
@@ -57,7 +57,8 @@ returns-2 c =
     let at = c .before .before .before .before .before .before in
     let a = at .before .args in
     c .gone .ensures
-    ∙ ap₂ (λ (r : Record) (w : Way). gone (a .state) r (a .word) (a .value) w) (c .before .record-in .ensures) (c .before .before .way-of .ensures)
+    ∙ ap (gone (a .state) (c .before .before .seen-in .result .what) (a .word) (a .value)) (c .before .way-of .ensures)
+    ∙ ap (λ (t : Seen). gone (a .state) (t .what) (a .word) (a .value) (wayOf (a .state .status) t)) (c .before .before .seen-in .ensures)
     ∙ by (a .state) (a .edition) (a .esr) (a .far) (a .hpfar) (a .word) (a .value) (at .read .ensures .answer)
     (c .before .before .before .before .shown .given .1)
 
@@ -69,8 +70,8 @@ answer-spec =
     enum-known-refusal
     number-requires
     enum-known-shown
+    seen-in-requires
     way-of-requires
-    record-in-requires
     gone-requires
     returns
     returns-2)

@@ -9,13 +9,10 @@ use Rattle.check_log.proofs.input.fill_halves.Statement.{statement}
 use Rattle.check_log.proofs.input.fill_halves.Tie as tie
 
 abbrev Inv-loop : tie.InvT-loop
-Inv-loop space₀ given n i₀ space i = length space ≡ length space₀
+Inv-loop space₀ given i₀ space i = length space ≡ length space₀
 
 abbrev μ-loop : tie.MeasureT-loop
-μ-loop space₀ given n i₀ space i = n - i
-
-least-requires : tie.Need-least-requires Inv-loop μ-loop
-least-requires c κs = search needs
+μ-loop space₀ given i₀ space i = given - i
 
 loop-holds : tie.Need-loop-holds Inv-loop μ-loop
 loop-holds c = refl
@@ -52,7 +49,6 @@ fill-halves-spec =
     (tie.spec
     Inv-loop
     μ-loop
-    least-requires
     loop-holds
     half-requires
     mul-space

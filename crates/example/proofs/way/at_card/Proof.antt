@@ -2,7 +2,7 @@
 use mathlib.Core.Path.{refl}
 use borrow.Author.Needs.{needs}
 use Rattle.bits.proofs.Arms.{at-arm}
-use Rattle.example.specs.Card.{atCard}
+use Rattle.example.specs.Seen.{atCard}
 use Rattle.example.proofs.way.at_card.Statement.{statement}
 use Rattle.example.proofs.way.at_card.Tie as tie
 
