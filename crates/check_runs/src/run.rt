@@ -69,12 +69,17 @@ fn malformed(run: Run) -> Run {
 }
 
 fn raised(run: Run, kind: Kind) -> Run {
+    let words = run.words;
     let before = run.queue;
     let reply = run.reply;
-    let mut next = skipped(run, 2);
-    next.queue = pending::raise(before, kind);
-    next.reply = with(reply, 0);
-    next
+    let queue = pending::raise(before, kind);
+    Run {
+        words,
+        at: wrapping_add_usize(run.at, 2),
+        queue,
+        reply: with(reply, 0),
+        good: run.good,
+    }
 }
 
 // `0 KIND`.
@@ -98,9 +103,10 @@ fn with_word(words: [u32; 48], place: u64, value: u32) -> [u32; 48] {
 // `PLACE VALUE`.
 fn change(row: Row, run: Run) -> Run {
     let place = number(row, run, 0);
-    let words = run.words;
+    let before = run.words;
+    let words = with_word(before, place, narrow(row, run, 1));
     let mut next = skipped(run, 2);
-    next.words = with_word(words, place, narrow(row, run, 1));
+    next.words = words;
     next.good = next.good & (place < END) & (number(row, run, 1) < WIDE);
     next
 }
