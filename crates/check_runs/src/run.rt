@@ -22,9 +22,6 @@ use std::num::wrapping_add_usize;
 // No place of a state: it ends a list of changes.
 const END: u64 = 48;
 
-// Numbers from this on have more than 32 bits.
-const WIDE: u64 = 0x1_0000_0000;
-
 // A run as far as it has been made.
 struct Run {
     // The state as it stands now.
@@ -45,6 +42,16 @@ fn start(row: Row) -> Run {
         reply: no_row(),
         good: rows::are_words(row, 0, 48),
     }
+}
+
+// Whether words stand some places on.
+fn are_words(row: Row, run: Run, from: usize, to: usize) -> bool {
+    let at = run.at;
+    rows::are_words(
+        row,
+        wrapping_add_usize(at, from),
+        wrapping_add_usize(at, to),
+    )
 }
 
 // The number that stands some places on, and its lower 32 bits.
@@ -107,7 +114,7 @@ fn change(row: Row, run: Run) -> Run {
     let words = with_word(before, place, narrow(row, run, 1));
     let mut next = skipped(run, 2);
     next.words = words;
-    next.good = next.good & (place < END) & (number(row, run, 1) < WIDE);
+    next.good = next.good & (place < END) & are_words(row, run, 1, 2);
     next
 }
 
@@ -198,9 +205,8 @@ fn injected(run: Run, what: Injection) -> Run {
 
 // `2 KIND FAULT LEVEL ADDRESS WRITE DOMAIN`, all but the address of 32 bits. The kind must be one: no call tells the correction of another.
 fn inject(row: Row, run: Run) -> Run {
-    let narrow_head = (number(row, run, 1) < 5) & (number(row, run, 2) < WIDE);
-    let narrow_rest = (number(row, run, 5) < WIDE) & (number(row, run, 6) < WIDE);
-    if !(narrow_head & (number(row, run, 3) < WIDE) & narrow_rest) {
+    let words = are_words(row, run, 1, 4) & are_words(row, run, 5, 7);
+    if !(words & (narrow(row, run, 1) < 5)) {
         return malformed(run);
     }
     injected(
@@ -230,7 +236,7 @@ fn returned(run: Run, correction: Signed) -> Run {
 // `3 SIGN SIZE`.
 fn go_back(row: Row, run: Run) -> Run {
     let size = narrow(row, run, 2);
-    if number(row, run, 2) >= WIDE {
+    if !are_words(row, run, 2, 3) {
         return malformed(run);
     }
     match number(row, run, 1) {
