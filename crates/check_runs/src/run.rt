@@ -22,9 +22,6 @@ use std::num::wrapping_add_usize;
 // No place of a state: it ends a list of changes.
 const END: u64 = 48;
 
-// Numbers from this on have more than 32 bits.
-const WIDE: u64 = 0x1_0000_0000;
-
 // A run as far as it has been made.
 struct Run {
     // The state as it stands now.
@@ -45,6 +42,16 @@ fn start(row: Row) -> Run {
         reply: no_row(),
         good: rows::are_words(row, 0, 48),
     }
+}
+
+// Whether words stand some places on.
+fn are_words(row: Row, run: Run, from: usize, to: usize) -> bool {
+    let at = run.at;
+    rows::are_words(
+        row,
+        wrapping_add_usize(at, from),
+        wrapping_add_usize(at, to),
+    )
 }
 
 // The number that stands some places on, and its lower 32 bits.
@@ -69,12 +76,17 @@ fn malformed(run: Run) -> Run {
 }
 
 fn raised(run: Run, kind: Kind) -> Run {
+    let words = run.words;
     let before = run.queue;
     let reply = run.reply;
-    let mut next = skipped(run, 2);
-    next.queue = pending::raise(before, kind);
-    next.reply = with(reply, 0);
-    next
+    let queue = pending::raise(before, kind);
+    Run {
+        words,
+        at: wrapping_add_usize(run.at, 2),
+        queue,
+        reply: with(reply, 0),
+        good: run.good,
+    }
 }
 
 // `0 KIND`.
@@ -98,10 +110,11 @@ fn with_word(words: [u32; 48], place: u64, value: u32) -> [u32; 48] {
 // `PLACE VALUE`.
 fn change(row: Row, run: Run) -> Run {
     let place = number(row, run, 0);
-    let words = run.words;
+    let before = run.words;
+    let words = with_word(before, place, narrow(row, run, 1));
     let mut next = skipped(run, 2);
-    next.words = with_word(words, place, narrow(row, run, 1));
-    next.good = next.good & (place < END) & (number(row, run, 1) < WIDE);
+    next.words = words;
+    next.good = next.good & (place < END) & are_words(row, run, 1, 2);
     next
 }
 
@@ -192,9 +205,8 @@ fn injected(run: Run, what: Injection) -> Run {
 
 // `2 KIND FAULT LEVEL ADDRESS WRITE DOMAIN`, all but the address of 32 bits. The kind must be one: no call tells the correction of another.
 fn inject(row: Row, run: Run) -> Run {
-    let narrow_head = (number(row, run, 1) < 5) & (number(row, run, 2) < WIDE);
-    let narrow_rest = (number(row, run, 5) < WIDE) & (number(row, run, 6) < WIDE);
-    if !(narrow_head & (number(row, run, 3) < WIDE) & narrow_rest) {
+    let words = are_words(row, run, 1, 4) & are_words(row, run, 5, 7);
+    if !(words & (narrow(row, run, 1) < 5)) {
         return malformed(run);
     }
     injected(
@@ -224,7 +236,7 @@ fn returned(run: Run, correction: Signed) -> Run {
 // `3 SIGN SIZE`.
 fn go_back(row: Row, run: Run) -> Run {
     let size = narrow(row, run, 2);
-    if number(row, run, 2) >= WIDE {
+    if !are_words(row, run, 2, 3) {
         return malformed(run);
     }
     match number(row, run, 1) {

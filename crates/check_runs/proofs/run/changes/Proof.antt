@@ -3,10 +3,10 @@ use Rattle.check_runs.proofs.run.changes.Statement.{statement}
 use Rattle.check_runs.proofs.run.changes.Tie as tie
 
 abbrev Inv-loop : tie.InvT-loop
-Inv-loop next₀ turns₀ next turns = Unit {0}
+Inv-loop row next₀ turns₀ next turns = Unit {0}
 
 abbrev μ-loop : tie.MeasureT-loop
-μ-loop next₀ turns₀ next turns = turns
+μ-loop row next₀ turns₀ next turns = turns
 
 loop-holds : tie.Need-loop-holds Inv-loop μ-loop
 loop-holds c = search needs
