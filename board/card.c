@@ -1,16 +1,16 @@
-/* The valve card: 64 valves of a byte each, and at 0x40 its interrupt lines. */
+/* The emulated card: 64 bytes, and at 0x40 its interrupt lines. */
 #include "board.h"
 
-#define VALVES 64
+#define BYTES 64
 #define LINES 0x40
 
-static uint8_t valves[VALVES];
+static uint8_t cells[BYTES];
 static uint32_t lines;
 
 void card_power_on(void)
 {
-    for (uint32_t n = 0; n < VALVES; n++)
-        valves[n] = (uint8_t)(0x80 + n);
+    for (uint32_t n = 0; n < BYTES; n++)
+        cells[n] = (uint8_t)(0x80 + n);
 }
 
 /* The card's bytes stand the lowest first; where it has none it gives 0, and takes what comes. */
@@ -18,15 +18,15 @@ uint32_t card_load(uint32_t offset, uint32_t bytes)
 {
     uint32_t value = 0;
 
-    for (uint32_t n = 0; n < bytes && offset + n < VALVES; n++)
-        value |= (uint32_t)valves[offset + n] << 8 * n;
+    for (uint32_t n = 0; n < bytes && offset + n < BYTES; n++)
+        value |= (uint32_t)cells[offset + n] << 8 * n;
     return value;
 }
 
 void card_store(uint32_t offset, uint32_t bytes, uint32_t value)
 {
-    for (uint32_t n = 0; n < bytes && offset + n < VALVES; n++)
-        valves[offset + n] = (uint8_t)(value >> 8 * n);
+    for (uint32_t n = 0; n < bytes && offset + n < BYTES; n++)
+        cells[offset + n] = (uint8_t)(value >> 8 * n);
     if (offset == LINES)
         lines |= value;
 }

@@ -1,11 +1,11 @@
-/* The guest: a program in A32 and T32 that has nothing but its four pages, the valve card, and what the monitor does for it.
+/* The guest: a program in A32 and T32 that has nothing but its four pages, the emulated card, and what the monitor does for it.
 
    It runs in Supervisor mode with stage 1 off, and says what it found. The monitor's services go by HVC's immediate. */
     .syntax unified
     .arch armv8-a
     .arch_extension virt
 
-    .equ CARD, 0x0A000000       @ the valve card: byte n of its first 64 is 0x80 + n
+    .equ CARD, 0x0A000000       @ the card: byte n of its first 64 is 0x80 + n
     .equ LINES, 0x40            @ its interrupt lines: a 1 in bit 0 raises IRQ, in bit 1 FIQ
     .equ NOTHING, 0x0B000000    @ here is neither memory nor a device
     .equ NO_TABLE, 0x0C000000   @ here stage 2 has a table that lies outside memory

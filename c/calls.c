@@ -678,6 +678,14 @@ static void going_on(void)
     expected.pc = 0x8004;
     CHECK(SAME(state, expected));
 
+    /* Cache maintenance, CM 1; on a walk, S1PTW 1, it has still to be executed. */
+    record = record_of(0x92000145);
+    state = user();
+    CHECK(knucklepin_step_over(&state, &record) == 0 && SAME(state, expected));
+    record = record_of(0x920001c5);
+    state = expected = user();
+    CHECK(knucklepin_step_over(&state, &record) == KNUCKLEPIN_NOT_DESCRIBED && SAME(state, expected));
+
     /* 0x93830045, the store of register 3; with E set its bytes are reversed. */
     record = record_of(0x93830045);
     state = expected = user();
@@ -740,39 +748,269 @@ static void going_on(void)
 
 /* ---- a monitor */
 
-/* Answers a trap of a guest with one emulated card: at the card's page the load or store is finished, with what the card gives or gets; of
-   everything else the guest gets an undefined instruction. 0, or the number of the refusal, with the guest as it was. */
-static uint32_t answer(struct knucklepin_state *guest, struct knucklepin_esr esr, struct knucklepin_far far, struct knucklepin_hpfar hpfar,
-                       uint32_t value, uint32_t *given)
+/* What the monitor does next. */
+enum next {
+    RESUME,  /* the guest goes on, in its state */
+    GIVE,    /* so it does, and the card gets `given` */
+    PERFORM, /* the card is asked for what `access` loads, in transfer order, and then knucklepin_a32_finish goes on */
+    REFUSED  /* nothing was done: the refusal's number */
+};
+
+struct answered {
+    enum next next;
+    uint32_t given, number;
+    struct knucklepin_access access;
+};
+
+/* What comes next, by the number that a call gave: `next`, where it did its work. */
+static struct answered after(uint32_t number, enum next next)
+{
+    const struct answered done = {.next = number == KNUCKLEPIN_TAKEN ? next : REFUSED, .number = number};
+    return done;
+}
+
+/* The guest gets an exception; an abort is an external one. */
+static struct answered injected(struct knucklepin_state *guest, uint32_t injection, uint64_t address, uint32_t write)
+{
+    return after(knucklepin_inject(guest, injection, KNUCKLEPIN_FAULT_EXTERNAL, 0, address, write, 0), RESUME);
+}
+
+/* Nothing is left of the instruction to do: the guest goes on past it. */
+static struct answered stepped(struct knucklepin_state *guest, const struct knucklepin_record *record)
+{
+    return after(knucklepin_step_over(guest, record), RESUME);
+}
+
+/* A data abort. At the card's page cache maintenance is stepped over, a load or store that the chip described (ISV 1) is finished, and one
+   that its word describes has to be performed. Of everything else the guest gets the abort. */
+static struct answered aborted(struct knucklepin_state *guest, const struct knucklepin_trap *trap, uint32_t word, uint32_t value)
+{
+    const uint64_t card = 0x1234;
+    const struct knucklepin_data_abort *abort = &trap->syndrome.data_abort;
+    if (trap->known.intermediate_known == KNUCKLEPIN_BYTE && trap->addresses.intermediate_address >> 12 == card) {
+        struct answered done = {.next = PERFORM};
+        struct knucklepin_list registers;
+        if (abort->cm) return stepped(guest, &trap->syndrome);
+        if (abort->isv) {
+            uint32_t given;
+            done = after(knucklepin_finish(guest, &trap->syndrome, value, &given), abort->wnr ? GIVE : RESUME);
+            done.given = given;
+            return done;
+        }
+        if (knucklepin_a32_describe(guest, word, &done.access, &registers) == KNUCKLEPIN_TAKEN) return done;
+    }
+    return injected(guest, KNUCKLEPIN_DATA_ABORT, trap->addresses.virtual_address, abort->wnr);
+}
+
+/* Answers a trap of a guest with one emulated card, by its class. `word` is the instruction at the guest's PC, and `value` what the card
+   gives to a load. */
+static struct answered answer(struct knucklepin_state *guest, struct knucklepin_esr esr, struct knucklepin_far far,
+                              struct knucklepin_hpfar hpfar, uint32_t word, uint32_t value)
 {
     const uint32_t board = KNUCKLEPIN_RAS | KNUCKLEPIN_LPA;
-    const uint64_t card = 0x1234;
     struct knucklepin_trap trap;
     struct knucklepin_editions editions;
-    uint32_t refusal = knucklepin_trap_read(KNUCKLEPIN_AARCH32, board, esr, far, hpfar, &trap, &editions);
-    if (refusal != KNUCKLEPIN_TAKEN) return refusal;
-    if (trap.known.intermediate_known == KNUCKLEPIN_BYTE && trap.addresses.intermediate_address >> 12 == card) {
-        return knucklepin_finish(guest, &trap.syndrome, value, given);
+    uint32_t number = knucklepin_trap_read(KNUCKLEPIN_AARCH32, board, esr, far, hpfar, &trap, &editions);
+    if (number != KNUCKLEPIN_TAKEN) return after(number, REFUSED);
+    if (!knucklepin_passes(guest->status, &trap.syndrome)) return stepped(guest, &trap.syndrome);
+    switch (esr.word >> 26) {
+    case 0x01: /* WFI, WFE */
+        return stepped(guest, &trap.syndrome);
+    case 0x11: /* SVC: PC is past it, and past an HVC */
+        return injected(guest, KNUCKLEPIN_SUPERVISOR_CALL, 0, 0);
+    case 0x12:
+        return injected(guest, KNUCKLEPIN_UNDEFINED_AFTER, 0, 0);
+    case 0x20: /* an instruction abort, and a PC alignment fault */
+    case 0x22:
+        return injected(guest, KNUCKLEPIN_PREFETCH_ABORT, trap.addresses.virtual_address, 0);
+    case 0x24:
+        return aborted(guest, &trap, word, value);
+    case 0x2f: /* an SError interrupt, which belongs to no instruction; debug events and BKPT, which are the debugger's */
+    case 0x30:
+    case 0x32:
+    case 0x34:
+    case 0x38:
+    case 0x3a:
+        return after(KNUCKLEPIN_TAKEN, RESUME);
+    default: /* everything else is undefined to the guest, with PC at it */
+        return injected(guest, KNUCKLEPIN_UNDEFINED_AT, 0, 0);
     }
-    return knucklepin_inject(guest, KNUCKLEPIN_UNDEFINED_AT, 0, 0, 0, 0, 0);
+}
+
+/* Traps of an instruction at 0x8000: the guest's status word and PC, what comes next, and its PC and status word then, with the link of an
+   exception, and DFSR or IFSR of an abort. They come at the card's page and with the word LDR r2, [r1, #4], but where another is given. */
+struct trapped {
+    uint32_t esr, status, pc;
+    enum next next;
+    struct {
+        uint32_t pc, status, link, code;
+    } to;
+    uint64_t hpfar;
+    uint32_t word;
+};
+
+static const struct trapped TRAPS[] = {
+    /* Unknown; illegal execution state. The link of an undefined instruction is 4 above it, in T32 state 2. */
+    {0x02000000, 0x10, 0x8000, RESUME, .to = {0x1004, 0x9b, 0x8004, 0}},
+    {0x02000000, 0x30, 0x8000, RESUME, .to = {0x1004, 0x9b, 0x8002, 0}},
+    {0x3a000000, 0x10, 0x8000, RESUME, .to = {0x1004, 0x9b, 0x8004, 0}},
+    /* WFI, with EQ where Z is 0 and where it is 1, and of 2 bytes; WFE. */
+    {0x07e00000, 0x10, 0x8000, RESUME, .to = {0x8004, 0x10, 0, 0}},
+    {0x07000000, 0x10, 0x8000, RESUME, .to = {0x8004, 0x10, 0, 0}},
+    {0x07000000, 0x40000010, 0x8000, RESUME, .to = {0x8004, 0x40000010, 0, 0}},
+    {0x05e00000, 0x30, 0x8000, RESUME, .to = {0x8002, 0x30, 0, 0}},
+    {0x07e00001, 0x10, 0x8000, RESUME, .to = {0x8004, 0x10, 0, 0}},
+    /* With EQ, where Z is 0 and where it is 1: MCR of p15, MCRR of p15, MCR of p14, STC, SIMD, VMRS, MRRC of p14, and SMC. */
+    {0x0f000000, 0x10, 0x8000, RESUME, .to = {0x8004, 0x10, 0, 0}},
+    {0x0f000000, 0x40000010, 0x8000, RESUME, .to = {0x1004, 0x4000009b, 0x8004, 0}},
+    {0x13000000, 0x10, 0x8000, RESUME, .to = {0x8004, 0x10, 0, 0}},
+    {0x13000000, 0x40000010, 0x8000, RESUME, .to = {0x1004, 0x4000009b, 0x8004, 0}},
+    {0x17000000, 0x10, 0x8000, RESUME, .to = {0x8004, 0x10, 0, 0}},
+    {0x17000000, 0x40000010, 0x8000, RESUME, .to = {0x1004, 0x4000009b, 0x8004, 0}},
+    {0x1b000000, 0x10, 0x8000, RESUME, .to = {0x8004, 0x10, 0, 0}},
+    {0x1b000000, 0x40000010, 0x8000, RESUME, .to = {0x1004, 0x4000009b, 0x8004, 0}},
+    {0x1f000000, 0x10, 0x8000, RESUME, .to = {0x8004, 0x10, 0, 0}},
+    {0x1f000000, 0x40000010, 0x8000, RESUME, .to = {0x1004, 0x4000009b, 0x8004, 0}},
+    {0x23000001, 0x10, 0x8000, RESUME, .to = {0x8004, 0x10, 0, 0}},
+    {0x23000001, 0x40000010, 0x8000, RESUME, .to = {0x1004, 0x4000009b, 0x8004, 0}},
+    {0x33000001, 0x10, 0x8000, RESUME, .to = {0x8004, 0x10, 0, 0}},
+    {0x33000001, 0x40000010, 0x8000, RESUME, .to = {0x1004, 0x4000009b, 0x8004, 0}},
+    {0x4f080000, 0x10, 0x8000, RESUME, .to = {0x8004, 0x10, 0, 0}},
+    {0x4f080000, 0x40000010, 0x8000, RESUME, .to = {0x1004, 0x4000009b, 0x8004, 0}},
+    /* An SMC with CCKNOWNPASS 0 has passed its condition. */
+    {0x4e000000, 0x10, 0x8000, RESUME, .to = {0x1004, 0x9b, 0x8004, 0}},
+    /* SVC of 4 and of 2 bytes, and HVC in either state: PC is past them. */
+    {0x46000001, 0x10, 0x8004, RESUME, .to = {0x1008, 0x93, 0x8004, 0}},
+    {0x44000001, 0x30, 0x8002, RESUME, .to = {0x1008, 0x93, 0x8002, 0}},
+    {0x4a000001, 0x10, 0x8004, RESUME, .to = {0x1004, 0x9b, 0x8004, 0}},
+    {0x4a000001, 0x30, 0x8004, RESUME, .to = {0x1004, 0x9b, 0x8002, 0}},
+    /* An instruction abort, at the card's page too, on a walk and elsewhere; PC alignment. */
+    {0x82000005, 0x10, 0x8000, RESUME, .to = {0x100c, 0x197, 0x8004, 0x8}},
+    {0x82000085, 0x10, 0x8000, RESUME, .to = {0x100c, 0x197, 0x8004, 0x8}},
+    {0x82000005, 0x30, 0x8000, RESUME, .to = {0x100c, 0x197, 0x8004, 0x8}, .hpfar = 0x12350},
+    {0x8a000000, 0x10, 0x8000, RESUME, .to = {0x100c, 0x197, 0x8004, 0x8}},
+    /* A store of register 3 that the chip describes, of 4 and of 2 bytes; elsewhere; a permission fault, which leaves HPFAR UNKNOWN. */
+    {0x93830045, 0x10, 0x8000, GIVE, .to = {0x8004, 0x10, 0, 0}},
+    {0x91830045, 0x30, 0x8000, GIVE, .to = {0x8002, 0x30, 0, 0}},
+    {0x93830045, 0x10, 0x8000, RESUME, .to = {0x1010, 0x197, 0x8008, 0x808}, .hpfar = 0x12350},
+    {0x9383004d, 0x10, 0x8000, RESUME, .to = {0x1010, 0x197, 0x8008, 0x808}},
+    {0x93830005, 0x10, 0x8000, RESUME, .to = {0x1010, 0x197, 0x8008, 0x8}, .hpfar = 0x12350},
+    /* A load that it doesn't describe: by its word; MOV r0, r0 is no load or store; T32 state; elsewhere, by LPA's bits too; on a walk. */
+    {0x92000005, 0x10, 0x8000, PERFORM, .to = {0x8000, 0x10, 0, 0}},
+    {0x92000005, 0x10, 0x8000, RESUME, .to = {0x1010, 0x197, 0x8008, 0x8}, .word = 0xe1a00000},
+    {0x92000005, 0x30, 0x8000, RESUME, .to = {0x1010, 0x197, 0x8008, 0x8}},
+    {0x92000005, 0x10, 0x8000, RESUME, .to = {0x1010, 0x197, 0x8008, 0x8}, .hpfar = 0x12350},
+    {0x92000005, 0x10, 0x8000, RESUME, .to = {0x1010, 0x197, 0x8008, 0x8}, .hpfar = 0x10000012340},
+    {0x92000085, 0x10, 0x8000, RESUME, .to = {0x1010, 0x197, 0x8008, 0x8}},
+    /* Cache maintenance: at the card's page, on a walk there, and elsewhere. */
+    {0x92000145, 0x10, 0x8000, RESUME, .to = {0x8004, 0x10, 0, 0}},
+    {0x920001c5, 0x10, 0x8000, RESUME, .to = {0x1010, 0x197, 0x8008, 0x808}},
+    {0x92000145, 0x10, 0x8000, RESUME, .to = {0x1010, 0x197, 0x8008, 0x808}, .hpfar = 0x12350},
+    /* An SError interrupt, a breakpoint, a software step, a watchpoint, BKPT, a vector catch. */
+    {0xbe000000, 0x10, 0x8000, RESUME, .to = {0x8000, 0x10, 0, 0}},
+    {0xc2000022, 0x10, 0x8000, RESUME, .to = {0x8000, 0x10, 0, 0}},
+    {0xca000022, 0x10, 0x8004, RESUME, .to = {0x8004, 0x10, 0, 0}},
+    {0xd2000022, 0x10, 0x8000, RESUME, .to = {0x8000, 0x10, 0, 0}},
+    {0xe2000001, 0x10, 0x8000, RESUME, .to = {0x8000, 0x10, 0, 0}},
+    {0xea000022, 0x10, 0x8000, RESUME, .to = {0x8000, 0x10, 0, 0}},
+};
+
+static const uint32_t LDR = 0xe5912004;
+
+static struct answered answered_at(struct knucklepin_state *guest, uint64_t word, uint64_t at, uint64_t page, uint32_t instruction)
+{
+    const struct knucklepin_esr esr = {word};
+    const struct knucklepin_far far = {at};
+    const struct knucklepin_hpfar hpfar = {page};
+    return answer(guest, esr, far, hpfar, instruction, 0xcafe);
+}
+
+/* The guest as a row has it, when it traps and after it. */
+static struct knucklepin_state before(const struct trapped *row)
+{
+    struct knucklepin_state guest = user();
+    guest.status = row->status;
+    guest.pc = row->pc;
+    return guest;
+}
+
+static struct knucklepin_state expected_of(const struct trapped *row)
+{
+    struct knucklepin_state guest = before(row);
+    guest.pc = row->to.pc;
+    guest.status = row->to.status;
+    switch (row->to.status & 0x1f) {
+    case KNUCKLEPIN_MODE_SVC:
+        guest.regs[18] = row->to.link;
+        guest.spsr_svc = row->status;
+        break;
+    case KNUCKLEPIN_MODE_UND:
+        guest.regs[22] = row->to.link;
+        guest.spsr_und = row->status;
+        break;
+    case KNUCKLEPIN_MODE_ABT:
+        guest.regs[20] = row->to.link;
+        guest.spsr_abt = row->status;
+        *(row->to.pc == 0x100c ? &guest.ifsr : &guest.dfsr) = row->to.code;
+        *(row->to.pc == 0x100c ? &guest.ifar : &guest.dfar) = 0x8abc;
+        break;
+    }
+    return guest;
 }
 
 static void monitor(void)
 {
-    struct knucklepin_state guest = user(), expected = user();
-    struct knucklepin_esr esr = {0x93830045};
-    const struct knucklepin_far far = {0x8abc};
-    struct knucklepin_hpfar hpfar = {0x12340};
-    uint32_t given;
-    CHECK(answer(&guest, esr, far, hpfar, 0, &given) == 0 && given == 0x103);
+    struct knucklepin_state guest, expected;
+    struct answered done;
+    for (size_t i = 0; i < sizeof TRAPS / sizeof *TRAPS; i++) {
+        const struct trapped *row = &TRAPS[i];
+        guest = before(row);
+        expected = expected_of(row);
+        done = answered_at(&guest, row->esr, 0x8abc, row->hpfar ? row->hpfar : 0x12340, row->word ? row->word : LDR);
+        CHECK_AT(done.next == row->next && done.number == 0, row->esr);
+        CHECK_AT(done.given == (row->next == GIVE ? 0x103 : 0), row->esr);
+        CHECK_AT(SAME(guest, expected), row->esr);
+    }
+
+    /* A word is loaded into register 2 with what the card gave; an external abort with FnV 1 has no address. */
+    guest = expected = user();
+    expected.regs[2] = 0xcafe;
     expected.pc = 0x8004;
-    CHECK(SAME(guest, expected));
-    hpfar.word = 0x12350;
-    CHECK(answer(&guest, esr, far, hpfar, 0, &given) == 0 && guest.pc == 0x1004 && guest.status == 0x9b && guest.regs[22] == 0x8008);
+    done = answered_at(&guest, 0x93820005, 0x8abc, 0x12340, 0);
+    CHECK(done.next == RESUME && SAME(guest, expected));
     guest = user();
-    expected = user();
-    esr.word = 0x92000018;
-    CHECK(answer(&guest, esr, far, hpfar, 0, &given) == KNUCKLEPIN_OTHER_EDITIONS && SAME(guest, expected));
+    done = answered_at(&guest, 0x92000410, 0x8abc, 0x12340, LDR);
+    CHECK(done.next == RESUME && guest.pc == 0x1010 && guest.dfsr == 0x8 && guest.dfar == 0);
+
+    /* LDR r2, [r1, #4] is performed: the card is asked for one word at 0x105, and the guest goes on with it. */
+    const struct knucklepin_access ldr = {
+        .form = KNUCKLEPIN_LDR, .cond = 0xe, .p = 1, .u = 1, .rn = 1, .rt = 2, .imm = 4, .load = 1, .sas = 2, .count = 1, .address = 0x105};
+    const struct knucklepin_list values = {{0xcafe}};
+    struct knucklepin_transfer transfer;
+    struct knucklepin_list addresses, given;
+    guest = user();
+    done = answered_at(&guest, 0x92000005, 0x8abc, 0x12340, LDR);
+    CHECK(done.next == PERFORM && SAME(done.access, ldr));
+    CHECK(knucklepin_a32_finish(&guest, LDR, &values, &transfer, &addresses, &given) == 0 && SAME(guest, expected));
+
+    /* Refusals, with the guest as it was: of the trap; of a state that is unsound, by each way; of VBAR. */
+    static const struct {
+        uint32_t esr, status, vbar, number;
+    } NOT_DONE[] = {
+        {0x92000018, 0x10, 0x1000, KNUCKLEPIN_OTHER_EDITIONS}, {0x00000000, 0x10, 0x1000, KNUCKLEPIN_SHORT_INSTRUCTION},
+        {0x07e00000, 0x00, 0x1000, KNUCKLEPIN_UNSOUND_STATUS}, {0x07000000, 0x00, 0x1000, KNUCKLEPIN_UNSOUND_STATUS},
+        {0x4a000001, 0x00, 0x1000, KNUCKLEPIN_UNSOUND_STATUS}, {0x93830045, 0x00, 0x1000, KNUCKLEPIN_UNSOUND_STATUS},
+        {0x92000005, 0x00, 0x1000, KNUCKLEPIN_UNSOUND_STATUS}, {0x92000145, 0x00, 0x1000, KNUCKLEPIN_UNSOUND_STATUS},
+        {0x4a000001, 0x10, 0x1001, KNUCKLEPIN_UNALIGNED_VBAR}};
+    for (size_t i = 0; i < sizeof NOT_DONE / sizeof *NOT_DONE; i++) {
+        guest = user();
+        guest.status = NOT_DONE[i].status;
+        guest.vbar = NOT_DONE[i].vbar;
+        expected = guest;
+        done = answered_at(&guest, NOT_DONE[i].esr, 0x8abc, 0x12340, LDR);
+        CHECK_AT(done.next == REFUSED && done.number == NOT_DONE[i].number && done.given == 0, NOT_DONE[i].esr);
+        CHECK_AT(SAME(guest, expected), NOT_DONE[i].esr);
+    }
 }
 
 /* ---- A32 loads and stores */
@@ -966,6 +1204,135 @@ static void logs(void)
     CHECK(knucklepin_log_write(editions, 0, syndromes, 0, fars, 0, hpfars, 0, injected, 0, buffer, 16, &length) == 0 && length == 16);
 }
 
+/* ---- what the header says of every call */
+
+/* Each refusal in its place among the call's tests, where the questions above leave it open. */
+static void orders(void)
+{
+    struct knucklepin_record record = {.kind = KNUCKLEPIN_KIND_CALL, .call = {.ec = 0x18, .imm16 = 0x10000}};
+    struct knucklepin_short_record short_record, short_read;
+    struct knucklepin_esr esr;
+    struct knucklepin_hsr hsr = {UINT32_MAX};
+    struct knucklepin_editions editions;
+    struct knucklepin_log_answer answer;
+    uint64_t length;
+
+    /* Class 0x16 with IL 0; an HVC with bit 16 set, and with IL 0 too. */
+    CHECK(reads(0, 0x158000000, KNUCKLEPIN_UPPER_HALF, 0, 0));
+    CHECK(reads(0, 0x58000000, KNUCKLEPIN_UNKNOWN_CLASS, 0, 0));
+    CHECK(reads(0, 0x48010000, KNUCKLEPIN_SHORT_INSTRUCTION, 0, 0));
+    CHECK(reads(0, 0x4a010000, KNUCKLEPIN_NO_EDITION, 0, 0));
+    CHECK(knucklepin_hsr_read(2, hsr, &short_read, &editions) == KNUCKLEPIN_UNKNOWN_EDITION);
+    CHECK(knucklepin_short_read(0, 0x58000000) == KNUCKLEPIN_UNKNOWN_CLASS);
+    CHECK(knucklepin_short_read(0, 0x48010000) == KNUCKLEPIN_SHORT_INSTRUCTION);
+    CHECK(knucklepin_short_read(0, 0x4a010000) == KNUCKLEPIN_NO_EDITION);
+
+    /* A call of a class that its kind lacks, then an HVC, with IL 0 and an immediate that doesn't fit; then with IL 1. Of an SMC of AArch64
+       with IL 0 the class comes first, from AArch32. */
+    CHECK(unwritten(16, &record, KNUCKLEPIN_UNKNOWN_EDITION));
+    CHECK(unwritten(0, &record, KNUCKLEPIN_NO_EDITION));
+    record.call.ec = 0x12;
+    CHECK(unwritten(0, &record, KNUCKLEPIN_SHORT_INSTRUCTION));
+    memcpy(&short_record, &record, sizeof record);
+    record.call.il = 1;
+    CHECK(unwritten(0, &record, KNUCKLEPIN_NO_EDITION));
+    record.call.il = 0;
+    record.call.ec = 0x17;
+    CHECK(unwritten(0, &record, KNUCKLEPIN_NO_EDITION));
+    CHECK(esr_write(KNUCKLEPIN_AARCH64, 0, &record, &esr, &editions) == KNUCKLEPIN_SHORT_INSTRUCTION);
+    CHECK(knucklepin_hsr_write(0, &short_record, &hsr, &editions) == KNUCKLEPIN_SHORT_INSTRUCTION);
+    short_record.call.ec = 0x16;
+    CHECK(knucklepin_hsr_write(0, &short_record, &hsr, &editions) == KNUCKLEPIN_NO_EDITION);
+    CHECK(knucklepin_hsr_write(2, &short_record, &hsr, &editions) == KNUCKLEPIN_UNKNOWN_EDITION);
+
+    /* One syndrome, no address, an injection with domain 16, and a byte more; and the injection alone. */
+    static const uint8_t unequal[27] = {[4] = 1, [20] = 1, [24] = 4, [25] = 16}, wide[18] = {[12] = 1, [16] = 4, [17] = 16};
+    static uint8_t ones[65537];
+    memset(ones, 0xff, sizeof ones);
+    CHECK(knucklepin_log_read(ones, 65537, &answer) == KNUCKLEPIN_LOG_TOO_LONG && ZEROS(answer));
+    CHECK(knucklepin_log_read(ones, 65536, &answer) == KNUCKLEPIN_LOG_CUT_SHORT && answer.gone == 0 && answer.section == 1);
+    CHECK(knucklepin_log_read(unequal, 25, &answer) == KNUCKLEPIN_LOG_CUT_SHORT && answer.gone == 0 && answer.section == 4);
+    CHECK(knucklepin_log_read(unequal, 27, &answer) == KNUCKLEPIN_LOG_LEFT_OVER && ZEROS(answer));
+    CHECK(knucklepin_log_read(unequal, 26, &answer) == KNUCKLEPIN_LOG_UNEQUAL && ZEROS(answer));
+    CHECK(knucklepin_log_read(wide, 18, &answer) == KNUCKLEPIN_WIDE_DOMAIN && ZEROS(answer));
+
+    const struct knucklepin_esr syndrome = {0};
+    const uint16_t injection = 0x1004;
+    uint8_t buffer[1];
+    CHECK(knucklepin_log_write(ones, 65521, &syndrome, 1, NULL, 0, NULL, 0, &injection, 1, buffer, 0, &length) == KNUCKLEPIN_LOG_TOO_LONG);
+    CHECK(knucklepin_log_write(ones, 0, &syndrome, 1, NULL, 0, NULL, 0, &injection, 1, buffer, 0, &length) == KNUCKLEPIN_LOG_UNEQUAL);
+    CHECK(knucklepin_log_write(ones, 0, NULL, 0, NULL, 0, NULL, 0, &injection, 1, buffer, 0, &length) == KNUCKLEPIN_WIDE_DOMAIN);
+    CHECK(knucklepin_log_write(ones, 0, NULL, 0, NULL, 0, NULL, 0, NULL, 0, buffer, 0, &length) == KNUCKLEPIN_LOG_NO_ROOM);
+}
+
+/* What a refusal leaves that isn't zero, and what is made of numbers that mean nothing. */
+static void odd_numbers(void)
+{
+    struct knucklepin_state state = user(), expected;
+    struct knucklepin_pending pending;
+    struct knucklepin_record record;
+    struct knucklepin_access access;
+    struct knucklepin_list registers;
+    struct knucklepin_log_entry entry;
+
+    /* 0x15 is the abort raised three times; a refused delivery leaves the queue as it was read, and so does one that is masked. */
+    CHECK(knucklepin_raise(0x15, 0) == KNUCKLEPIN_ABORT);
+    state.status = 0x110;
+    state.vbar = 1;
+    expected = state;
+    pending.queue = 0x15;
+    CHECK(knucklepin_deliver(&state, &pending) == KNUCKLEPIN_UNALIGNED_VBAR && pending.queue == KNUCKLEPIN_ABORT && pending.delivered == 0);
+    pending.queue = KNUCKLEPIN_EMPTY;
+    CHECK(knucklepin_deliver(&state, &pending) == KNUCKLEPIN_UNALIGNED_VBAR && ZEROS(pending));
+    CHECK(SAME(state, expected));
+    state.vbar = 0;
+    pending.queue = 0x15;
+    CHECK(knucklepin_deliver(&state, &pending) == 0 && pending.queue == KNUCKLEPIN_ABORT && pending.delivered == 0);
+
+    /* An HVC and a data abort have no condition, and words that are no record neither: whatever the flags are, they pass. */
+    record = record_of(0x4a000001);
+    CHECK(knucklepin_passes(0, &record) == 1 && knucklepin_passes(UINT32_MAX, &record) == 1);
+    record = record_of(0x93830045);
+    CHECK(knucklepin_passes(0, &record) == 1 && knucklepin_passes(UINT32_MAX, &record) == 1);
+    for (int which = 0; which < NO_RECORDS; which++) {
+        record = no_record(which);
+        CHECK(knucklepin_passes(0, &record) == 1 && knucklepin_passes(UINT32_MAX, &record) == 1);
+    }
+
+    /* LDR r2, [pc, #8]: P, W and Rn aren't fields of a literal. */
+    const struct knucklepin_access literal = {.form = KNUCKLEPIN_LDR + KNUCKLEPIN_LITERAL,
+                                              .cond = 0xe,
+                                              .u = 1,
+                                              .rt = 2,
+                                              .imm = 8,
+                                              .load = 1,
+                                              .sas = 2,
+                                              .count = 1,
+                                              .address = 0x8010};
+    state = user();
+    UNWRITTEN(access);
+    CHECK(knucklepin_a32_describe(&state, 0xe59f2008, &access, &registers) == 0 && SAME(access, literal));
+
+    /* A log without entries has no fifth section; cut within its second count it has a first section alone. */
+    static const uint8_t empty[16];
+    static const uint32_t passed[] = {4, 5, UINT32_MAX};
+    for (size_t i = 0; i < sizeof passed / sizeof *passed; i++) {
+        UNWRITTEN(entry);
+        knucklepin_log_look(empty, 16, passed[i], 0, &entry);
+        CHECK(ZEROS(entry));
+        UNWRITTEN(entry);
+        knucklepin_log_look(empty, 7, passed[i], 0, &entry);
+        CHECK(ZEROS(entry));
+    }
+    knucklepin_log_look(empty, 7, 0, 0, &entry);
+    CHECK(entry.whole == 1 && entry.count == 0 && entry.entry == KNUCKLEPIN_NO_ENTRY);
+    for (uint32_t n = 1; n < 4; n++) {
+        UNWRITTEN(entry);
+        knucklepin_log_look(empty, 7, n, 0, &entry);
+        CHECK(ZEROS(entry));
+    }
+}
+
 int main(void)
 {
     words();
@@ -979,6 +1346,8 @@ int main(void)
     monitor();
     a32();
     logs();
+    orders();
+    odd_numbers();
     printf("calls: %u answers as worked out by hand, %u others\n", checks - wrong, wrong);
     return wrong != 0;
 }

@@ -4,9 +4,10 @@
  * each call asks what C asks: that it points to the type that is declared here, or to as many elements as the length says (a length of 0
  * may come with any pointer), and that no two places of one call overlap.
  *
- * A call that can refuse answers 0, or the number of the first test that fails, by KNUCKLEPIN_TAKEN and the names after it. On a refusal
- * a state and a log's buffer are as they came, and every other place that the call writes holds zeros; only refusal 6 carries something,
- * which is its mask and its count.
+ * A call that can refuse answers 0, or the number of the first test that fails, by KNUCKLEPIN_TAKEN and the names after it. "Refused 16,
+ * 15, 20, 17" names a call's tests in the order in which they are made. On a refusal a state and a log's buffer are as they came, and every
+ * other place that the call writes holds zeros but these: 6 carries its mask and its count, 13 its section, and what waits for a guest goes
+ * on waiting, so that a refused delivery leaves the queue as it was read.
  *
  * A flag that is handed in as a parameter or as a mark of a state is any number: 0 is no, and every other is yes. A flag that is handed out
  * is 0 or 1. */
@@ -206,7 +207,7 @@ KNUCKLEPIN_WORDS(struct knucklepin_short_record, 16);
 /* ---- the guest's state ---- */
 
 /* A guest in AArch32. `regs` are in the AArch64 numbering, `status` is CPSR, and `pan`, `ssbs` and `dit` mark the features that it has: no
- * call changes these three. */
+ * call changes these three. SPSR_EL2 isn't `status`: its bit 21 is SS, and DIT is bit 24 there (knucklepin_from_spsr). */
 struct knucklepin_state {
     uint32_t regs[31];
     uint32_t pc, status;
@@ -230,7 +231,7 @@ KNUCKLEPIN_WORDS(struct knucklepin_state, 48);
 #define KNUCKLEPIN_NOWHERE UINT32_C(0xFFFFFFFF)
 uint32_t knucklepin_held_in(uint32_t mode, uint32_t number);
 
-/* The guest's status word from the word that the hypervisor saved of it, SPSR_EL2: 0, or 9. */
+/* The guest's status word from the word that the hypervisor saved of it, SPSR_EL2. Refused 9. */
 uint32_t knucklepin_from_spsr(uint32_t pan, uint32_t ssbs, uint32_t dit, uint32_t spsr, uint32_t *status);
 
 /* ---- syndromes and whole traps ---- */
@@ -245,34 +246,35 @@ uint32_t knucklepin_hsr_read_raw(uint32_t edition, uint32_t hsr, struct knucklep
 uint32_t knucklepin_hsr_write_raw(uint32_t edition, const struct knucklepin_short_record *syndrome, uint32_t *hsr,
                                   struct knucklepin_editions *editions);
 
-/* Reads a syndrome word: 0, or 1 to 6. */
+/* Reads a syndrome word. Refused 1, 2, 3, 4, 5, 6. */
 static inline uint32_t knucklepin_esr_read(uint32_t origin, uint32_t edition, struct knucklepin_esr esr, struct knucklepin_record *syndrome,
                                            struct knucklepin_editions *editions)
 {
     return knucklepin_esr_read_raw(origin, edition, esr.word, syndrome, editions);
 }
 
-/* Writes a record: 0, or 1, 4, 5 or 6. */
+/* Writes a record. Refused 1, 5 for a class that its kind or the origin lacks, 4, 5, 6. */
 static inline uint32_t knucklepin_esr_write(uint32_t origin, uint32_t edition, const struct knucklepin_record *syndrome,
                                             struct knucklepin_esr *esr, struct knucklepin_editions *editions)
 {
     return knucklepin_esr_write_raw(origin, edition, syndrome, &esr->word, editions);
 }
 
-/* The same of the short form, which a hypervisor in AArch32 reads: 0, or 1, 3, 4, 5 or 6; and 0, or 1, 4, 5 or 6. */
+/* Reads a word of the short form, which a hypervisor in AArch32 has. Refused 1, 3, 4, 5, 6. */
 static inline uint32_t knucklepin_hsr_read(uint32_t edition, struct knucklepin_hsr hsr, struct knucklepin_short_record *syndrome,
                                            struct knucklepin_editions *editions)
 {
     return knucklepin_hsr_read_raw(edition, hsr.word, syndrome, editions);
 }
 
+/* Writes a short record. Refused 1, 5 for a class that its kind lacks, 4, 5, 6. */
 static inline uint32_t knucklepin_hsr_write(uint32_t edition, const struct knucklepin_short_record *syndrome, struct knucklepin_hsr *hsr,
                                             struct knucklepin_editions *editions)
 {
     return knucklepin_hsr_write_raw(edition, syndrome, &hsr->word, editions);
 }
 
-/* A short record changed to a long one, in a guest's mode: 0, or 9 or 5. */
+/* A short record changed to a long one, in a guest's mode. Refused 9 for a number that is no mode, 5. */
 uint32_t knucklepin_widen(uint32_t mode, const struct knucklepin_short_record *from, struct knucklepin_record *to);
 
 /* What sort of trap it is. An instruction or data abort tells its two addresses as far as they are known; a PC alignment fault and a
@@ -308,7 +310,7 @@ uint32_t knucklepin_trap_read_raw(uint32_t origin, uint32_t edition, uint64_t es
                                   struct knucklepin_record *syndrome, struct knucklepin_known *known,
                                   struct knucklepin_addresses *addresses, struct knucklepin_editions *editions);
 
-/* Reads a whole trap: 0, or 1 to 8. */
+/* Reads a whole trap. Refused 1, 2, 3, 4, 5, 6, 7, and from AArch32 8. A register that doesn't count may hold anything. */
 static inline uint32_t knucklepin_trap_read(uint32_t origin, uint32_t edition, struct knucklepin_esr esr, struct knucklepin_far far,
                                             struct knucklepin_hpfar hpfar, struct knucklepin_trap *trap,
                                             struct knucklepin_editions *editions)
@@ -318,6 +320,10 @@ static inline uint32_t knucklepin_trap_read(uint32_t origin, uint32_t edition, s
 }
 
 /* ---- exceptions of the guest, and the return from them ---- */
+
+/* Injections, deliveries and returns are for a guest whose EL1 is AArch32 (HCR_EL2.RW 0). A 32-bit program below a 64-bit kernel (RW 1) has
+ * SPSR_EL2 bit 4 1 too: its traps are AArch32's, and the calls that go on from a trap, further below, serve it; but its exceptions are for
+ * the kernel, in AArch64, which no call here enters. After an injection the hypervisor's ERET would fault at EL2. */
 
 #define KNUCKLEPIN_UNDEFINED_AT UINT32_C(0)    /* PC is at the undefined instruction */
 #define KNUCKLEPIN_UNDEFINED_AFTER UINT32_C(1) /* PC is after the undefined instruction, which is 32 bits long */
@@ -331,9 +337,9 @@ static inline uint32_t knucklepin_trap_read(uint32_t origin, uint32_t edition, s
 #define KNUCKLEPIN_FAULT_PERMISSION UINT32_C(3)
 #define KNUCKLEPIN_FAULT_ALIGNMENT UINT32_C(4)
 
-/* Injects an exception: 0, or 9 to 12 or 20. An abort alone looks at fault, level and address, and a data abort alone at write and domain.
- * The level is looked at where the fault has one. A number that is no injection or no fault is refused 11, as a level that isn't 1 to 3
- * is. */
+/* Injects an exception. Refused 9, 10, 11, 20, 12. An abort alone looks at fault, level and address, and a data abort alone at write and
+ * domain. The level is looked at where the fault has one. A number that is no injection or no fault is refused 11, as a level that isn't 1
+ * to 3 is. */
 uint32_t knucklepin_inject(struct knucklepin_state *state, uint32_t injection, uint32_t fault, uint32_t level, uint64_t address,
                            uint32_t write, uint32_t domain);
 
@@ -347,7 +353,8 @@ uint32_t knucklepin_injection_correction(const struct knucklepin_state *state, u
 #define KNUCKLEPIN_IRQ UINT32_C(3)
 
 /* A queue is a number: its two lowest bits are the oldest that waits, the next two the second, the next two the youngest; 0 is empty. Every
- * number is read as the queue in which its pairs of bits were raised, the lowest first: none is lost, and none waits twice. */
+ * number is read as the queue in which its pairs of bits were raised, the lowest first: none is lost, and none waits twice; and the
+ * number that comes back is that queue's own, as 0x1 for 0x15. */
 #define KNUCKLEPIN_EMPTY UINT32_C(0)
 
 /* The queue after a kind was raised: one that waits keeps its place. A number that is no kind raises nothing. */
@@ -359,26 +366,27 @@ struct knucklepin_pending {
 };
 KNUCKLEPIN_WORDS(struct knucklepin_pending, 2);
 
-/* Delivers the oldest whose mask bit is 0: 0, or 9 or 10. What `delivered` holds before the call isn't looked at. What waits goes on
- * waiting on a refusal. */
+/* Delivers the oldest whose mask bit is 0. Refused 9, 10, also where nothing waits: the queue is then as it was read, and `delivered` is 0.
+ * What `delivered` holds before the call isn't looked at. */
 uint32_t knucklepin_deliver(struct knucklepin_state *state, struct knucklepin_pending *pending);
 
 /* What the delivery of a kind adds to the state's PC for its link. 0 for a number that is no kind. */
 uint32_t knucklepin_delivery_correction(const struct knucklepin_state *state, uint32_t kind);
 
-/* Returns the guest from its mode's exception: 0, or 9. The correction is what was added to PC for the link, modulo 2^32. */
+/* Returns the guest from its mode's exception. Refused 9. The correction is what was added to PC for the link, modulo 2^32. */
 uint32_t knucklepin_resume(struct knucklepin_state *state, uint32_t correction);
 
 /* ---- going on from a trap ---- */
 
-/* Whether a trapped instruction counts: one whose condition fails does nothing. */
+/* Whether a trapped instruction counts: one whose condition fails does nothing. A record without a condition passes, and so do words that
+ * are no record. Of the status word N, Z, C, V, T and IT alone are looked at. */
 uint32_t knucklepin_passes(uint32_t status, const struct knucklepin_record *syndrome);
 
-/* Steps over the instruction: 0, or 5, 9 or 18. */
+/* Steps over WFI, WFE, SMC, a cache maintenance operation (CM 1 and S1PTW 0), or whatever doesn't count. Refused 5, 9, 18. */
 uint32_t knucklepin_step_over(struct knucklepin_state *state, const struct knucklepin_record *syndrome);
 
-/* Finishes a load or store of a data abort with ISV 1: 0, or 5, 9 or 18. `value` is what the device gave to a load, and `given` what a
- * store, WnR 1, gives the device; of a load it is 0. */
+/* Finishes a load or store of a data abort with ISV 1. Refused 5, 9, 18. `value` is what the device gave to a load, of which the bits that
+ * SAS says are taken: a store, WnR 1, doesn't look at it. `given` is what a store gives the device; of a load it is 0. */
 uint32_t knucklepin_finish(struct knucklepin_state *state, const struct knucklepin_record *syndrome, uint32_t value, uint32_t *given);
 
 /* What Rt and Rt2 hold. */
@@ -387,8 +395,8 @@ struct knucklepin_pair {
 };
 KNUCKLEPIN_WORDS(struct knucklepin_pair, 2);
 
-/* Finishes a coprocessor read or write (MCR, MRC, VMRS, MCRR, MRRC): 0, or 5, 9 or 18. A read, direction 1, takes the values, and a write
- * gives them; what an instruction doesn't give is 0. */
+/* Finishes a coprocessor read or write (MCR, MRC, VMRS, MCRR, MRRC). Refused 5, 9, 18. A read, direction 1, takes the values, and a write
+ * gives them: a value that isn't taken isn't looked at, and one that isn't given is 0. */
 uint32_t knucklepin_coprocessor_finish(struct knucklepin_state *state, const struct knucklepin_record *syndrome, uint32_t first,
                                        uint32_t second, struct knucklepin_pair *given);
 
@@ -410,9 +418,10 @@ uint32_t knucklepin_coprocessor_finish(struct knucklepin_state *state, const str
 #define KNUCKLEPIN_STM UINT32_C(48)
 #define KNUCKLEPIN_LDM UINT32_C(49)
 
-/* A load or store: its form and its fields (those that the form lacks are 0); whether memory is read, how wide a transfer is (SAS: 0 a
- * byte, 1 a halfword, 2 a word) and whether it is extended by its sign (SSE); how many registers it transfers; the first address, from
- * which the others follow at distances of 4; and what is added to the base, modulo 2^32. */
+/* A load or store: its form and its fields (those that the form lacks are 0: of a literal p, w and rn, though its word has P 1 and Rn 15);
+ * whether memory is read, how wide a transfer is (SAS: 0 a byte, 1 a halfword, 2 a word) and whether it is extended by its sign (SSE); how
+ * many registers it transfers; the first address, from which the others follow at distances of 4; and what is added to the base, modulo
+ * 2^32. */
 struct knucklepin_access {
     uint32_t form, cond, p, u, w, rn, rt, imm, rm, list;
     uint32_t load, sas, sse;
@@ -426,7 +435,8 @@ struct knucklepin_list {
 };
 KNUCKLEPIN_WORDS(struct knucklepin_list, 16);
 
-/* What the instruction word at PC does in the guest's state, and its registers, which are the guest's mode's: 0, or 9 or 19. */
+/* What the instruction word at PC does in the guest's state, and its registers, which are the guest's mode's. Refused 9, 19 in T32 state,
+ * 19 for the word. */
 uint32_t knucklepin_a32_describe(const struct knucklepin_state *state, uint32_t word, struct knucklepin_access *access,
                                  struct knucklepin_list *registers);
 
@@ -436,8 +446,9 @@ struct knucklepin_transfer {
 };
 KNUCKLEPIN_WORDS(struct knucklepin_transfer, 2);
 
-/* Finishes the load or store that the word describes: 0, or 9 or 19. `values` are what the device gave to a load: a store doesn't look at
- * them. `addresses` are those of the transfers, and `given` what a store gives the device there: of a load zeros. */
+/* Finishes the load or store that the word describes. Refused 9, 19 in T32 state, 19 for the word. `values` are what the device gave to a
+ * load: a store doesn't look at them. `addresses` are those of the transfers, and `given` what a store gives the device there: of a load
+ * zeros. */
 uint32_t knucklepin_a32_finish(struct knucklepin_state *state, uint32_t word, const struct knucklepin_list *values,
                                struct knucklepin_transfer *transfer, struct knucklepin_list *addresses, struct knucklepin_list *given);
 
@@ -449,7 +460,7 @@ struct knucklepin_log_answer {
 };
 KNUCKLEPIN_WORDS(struct knucklepin_log_answer, 4);
 
-/* Reads a log: 0, or 13 to 16 or 20. */
+/* Reads a log. Refused 16, 13 for the first section that isn't whole, 14, 15, 20. */
 uint32_t knucklepin_log_read(const uint8_t *log, uint64_t length, struct knucklepin_log_answer *answer);
 
 /* Entries of a log, by section. */
@@ -466,7 +477,8 @@ struct knucklepin_log_entry {
 };
 KNUCKLEPIN_WORDS(struct knucklepin_log_entry, 10);
 
-/* Looks at entry i of the section after so many (0 for editions, 3 for injections) of any bytes. */
+/* Looks at entry i of the section after so many (0 for editions, 3 for injections) of any bytes. Where `passed` is above 3, or that section
+ * or one before it isn't whole, all that is found is zeros. */
 void knucklepin_log_look(const uint8_t *log, uint64_t length, uint32_t passed, uint64_t i, struct knucklepin_log_entry *found);
 
 uint32_t knucklepin_log_write_raw(const uint8_t *editions, uint64_t edition_count, const uint64_t *syndromes, uint64_t syndrome_count,
@@ -474,7 +486,8 @@ uint32_t knucklepin_log_write_raw(const uint8_t *editions, uint64_t edition_coun
                                   const uint16_t *injections, uint64_t injection_count, uint8_t *buffer, uint64_t room,
                                   uint64_t *length);
 
-/* Writes a log into a buffer: 0, or 15, 16, 17 or 20. An injection is its own byte, and 256 times its domain. */
+/* Writes a log into a buffer. Refused 16, 15, 20, 17. An injection is its own byte, and 256 times its domain; every other entry may hold
+ * anything. */
 static inline uint32_t knucklepin_log_write(const uint8_t *editions, uint64_t edition_count, const struct knucklepin_esr *syndromes,
                                             uint64_t syndrome_count, const struct knucklepin_far *fars, uint64_t far_count,
                                             const struct knucklepin_hpfar *hpfars, uint64_t hpfar_count, const uint16_t *injections,
@@ -486,8 +499,8 @@ static inline uint32_t knucklepin_log_write(const uint8_t *editions, uint64_t ed
 
 /* ---- answers as single numbers ---- */
 
-/* A word read: 0 where it is taken, else number + (mask << 8) + (count << 24). A word read in one edition and written in another: the
- * word, or all ones where either refuses. From AArch32, from AArch64, and of the short form. */
+/* A word read: 0 where it is taken, else number + (mask << 8) + (count << 24), as the calls above refuse it. A word read in one edition and
+ * written in another: the word, or all ones where either refuses. From AArch32, from AArch64, and of the short form. */
 uint64_t knucklepin_read(uint32_t edition, uint64_t word);
 uint64_t knucklepin_rewrite(uint32_t reader, uint32_t writer, uint64_t word);
 uint64_t knucklepin_aarch64_read(uint32_t edition, uint64_t word);

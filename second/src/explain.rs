@@ -127,7 +127,7 @@ fn refused(catalogue: &Catalogue, word: u64, refusal: Refusal) -> String {
         1 => format!("refused 1: the edition is above {}\n", form.editions - 1),
         2 => "refused 2: bits 63:32 of the syndrome are not zero\n".into(),
         3 => {
-            let place = if form.editions == 2 { "in the short form" } else { "from AArch32" };
+            let place = if is_short(form) { "in the short form" } else { "from AArch32" };
             format!("refused 3: EC 31:26 is no class of the build {place}\n")
         }
         4 => "refused 4: IL 25 is 0 where it must be 1\n".into(),
@@ -167,7 +167,7 @@ fn why(form: &Form, word: u32) -> Option<&'static str> {
     let named = kind.fields.iter().fold(0x3f << 26, |bits, field| bits | field.place());
     let (code, set) = (get("code"), get("SET"));
     let is_mmu_fault = matches!(code, 0x00..=0x0f | 0x29 | 0x2b);
-    let is_short = form.editions == 2;
+    let is_short = is_short(form);
     let is_data = class == 0x24;
     let is_abort = is_data || class == 0x20;
     // An SError interrupt among the aborts, and what its bits 11:10 hold.
@@ -295,7 +295,8 @@ fn features(form: &Form, mask: EditionMask) -> String {
 
 /// The lines of a record: its class, its fields, and what the layout fixes.
 fn fields(form: &Form, record: &Record) -> String {
-    let class = format!("EC 31:26 = {:#x}{}\n", record.class, said(class_name(record.class)));
+    let class_text = class_name(is_short(form), record.class);
+    let class = format!("EC 31:26 = {:#x}{}\n", record.class, said(class_text));
     let own = record.kind.fields.iter().zip(&record.values).map(|(field, &value)| {
         let name = field_name(form, record, field.name);
         format!(
@@ -314,57 +315,101 @@ fn fields(form: &Form, record: &Record) -> String {
     class + &own.collect::<String>() + &fixed
 }
 
+fn is_short(form: &Form) -> bool {
+    form.editions == 2
+}
+
 fn said(meaning: Option<String>) -> String {
     meaning.map_or(String::new(), |text| format!(": {text}"))
 }
 
 /// The manual's name of a field.
 fn field_name(form: &Form, record: &Record, name: &'static str) -> &'static str {
-    let is_short = form.editions == 2;
     match (name, record.class) {
         ("code", 0x20) => "IFSC",
         ("code", _) => "DFSC",
         ("imm16", 0x38) => "Comment",
-        ("AET", _) if is_short && record.get("code") != Some(0x11) => "0:FnV",
+        ("AET", _) if is_short(form) && record.get("code") != Some(0x11) => "0:FnV",
         _ => name,
     }
 }
 
-fn class_name(class: u32) -> Option<String> {
-    let name = match class {
-        0x00 => "Unknown reason",
-        0x01 => "Trapped WFI or WFE instruction execution",
-        0x03 => "Trapped MCR or MRC access with coproc 0b1111",
-        0x04 => "Trapped MCRR or MRRC access with coproc 0b1111",
-        0x05 => "Trapped MCR or MRC access with coproc 0b1110",
-        0x06 => "Trapped LDC or STC access",
-        0x07 => "Trapped access to Advanced SIMD or floating-point functionality",
-        0x08 => "Trapped VMRS access, from ID group trap",
-        0x0c => "Trapped MRRC access with coproc 0b1110",
-        0x0e => "Illegal Execution state",
-        0x11..=0x13 => return Some(call(class - 0x11, "AArch32")),
-        0x15..=0x17 => return Some(call(class - 0x15, "AArch64")),
-        0x18 => "Trapped MSR, MRS or System instruction execution in AArch64 state",
-        0x20 => "Instruction Abort from a lower Exception level",
-        0x22 => "PC alignment fault exception, IL of HSR is UNKNOWN",
-        0x24 => "Data Abort from a lower Exception level",
-        0x2f => "SError interrupt",
-        0x30 => "Breakpoint exception from a lower Exception level",
-        0x32 => "Software Step exception from a lower Exception level",
-        0x34 => "Watchpoint exception from a lower Exception level",
-        0x38 => "BKPT instruction execution in AArch32 state",
-        0x3a => "Vector Catch exception from AArch32 state",
+/// What a field is worth beside the others.
+enum Standing {
+    /// It says what its value means.
+    Counts,
+    /// The manual calls it UNKNOWN.
+    Unknown,
+    /// It is RES0, or has one value whatever happened.
+    Silent,
+}
+
+/// A field's standing, by the manual's sentences below it: "valid only if",
+/// "RES0 for", "is UNKNOWN".
+fn standing(form: &Form, record: &Record, name: &str) -> Standing {
+    use Standing::{Counts, Silent, Unknown};
+    let is = |name| record.is_set(name);
+    let code = record.get("code");
+    let is_serror = is_short(form) && matches!(code, Some(0x11 | 0x19));
+    let is_mmu_fault = matches!(code, Some(0x00..=0x0f | 0x29 | 0x2b));
+    match (name, record.class) {
+        ("IL", 0x22) if is_short(form) => Unknown,
+        ("IL", 0x00 | 0x0e | 0x20 | 0x22 | 0x2f | 0x30 | 0x32 | 0x34 | 0x3a) => Silent,
+        ("IL", 0x24) if !is("ISV") => Silent,
+        ("CV" | "COND", 0x13) if !is("CCKNOWNPASS") => Silent,
+        ("COND", _) if !is("CV") => Unknown,
+        ("Rn", _) if record.get("AM") >= Some(0b100) => Unknown,
+        ("SAS" | "SSE" | "SRT" | "SF" | "AR" | "EX", _) if !is("ISV") => Silent,
+        ("SSE", _) if is("WnR") => Silent,
+        ("SET" | "FnV" | "0:FnV", _) if code != Some(0x10) => Silent,
+        ("S1PTW", _) if !is_mmu_fault => Silent,
+        ("CM" | "WnR", _) if is_serror => Silent,
+        ("WnR", 0x24) if !is_short(form) && matches!(code, Some(0x31 | 0x35)) => Unknown,
+        ("WnR", _) if is("CM") => Silent,
+        ("AET", 0x2f) if record.get("DFSC") != Some(0x11) => Silent,
+        _ => Counts,
+    }
+}
+
+/// A class of ESR, or where HSR's words differ of HSR.
+fn class_name(is_short: bool, class: u32) -> Option<String> {
+    let name = match (is_short, class) {
+        (true, 0x07) => {
+            "Access to Advanced SIMD or floating-point functionality trapped by a HCPTR.{TASE, TCP10} control"
+        }
+        (true, 0x0e) => "Illegal exception return to AArch32 state",
+        (true, 0x11) => "Exception on SVC instruction execution in AArch32 state routed to EL2",
+        (true, 0x13) => "Trapped execution of SMC instruction in AArch32 state",
+        (true, 0x20) => "Prefetch Abort from a lower Exception level",
+        (true, 0x25..) => return None,
+        (_, 0x00) => "Unknown reason",
+        (_, 0x01) => "Trapped WFI or WFE instruction execution",
+        (_, 0x03) => "Trapped MCR or MRC access with coproc 0b1111",
+        (_, 0x04) => "Trapped MCRR or MRRC access with coproc 0b1111",
+        (_, 0x05) => "Trapped MCR or MRC access with coproc 0b1110",
+        (_, 0x06) => "Trapped LDC or STC access",
+        (_, 0x07) => "Trapped access to Advanced SIMD or floating-point functionality",
+        (_, 0x08) => "Trapped VMRS access, from ID group trap",
+        (_, 0x0c) => "Trapped MRRC access with coproc 0b1110",
+        (_, 0x0e) => "Illegal Execution state",
+        (_, 0x11) => "SVC instruction execution in AArch32 state",
+        (_, 0x12) => "HVC instruction execution in AArch32 state",
+        (_, 0x13) => "SMC instruction execution in AArch32 state",
+        (_, 0x20) => "Instruction Abort from a lower Exception level",
+        (_, 0x22) => "PC alignment fault exception",
+        (_, 0x24) => "Data Abort from a lower Exception level",
+        (_, 0x2f) => "SError interrupt",
+        (_, 0x30) => "Breakpoint exception from a lower Exception level",
+        (_, 0x32) => "Software Step exception from a lower Exception level",
+        (_, 0x34) => "Watchpoint exception from a lower Exception level",
+        (_, 0x38) => "BKPT instruction execution in AArch32 state",
+        (_, 0x3a) => "Vector Catch exception from AArch32 state",
         _ => return None,
     };
     Some(name.into())
 }
 
-fn call(number: u32, state: &str) -> String {
-    let name = ["SVC", "HVC", "SMC"][number as usize];
-    format!("{name} instruction execution in {state} state")
-}
-
-/// A fault status code: what failed, and at which level.
+/// A fault status code of ESR: what failed, and at which level.
 fn fault(code: u32) -> Option<String> {
     const UPDATE: &str = "translation table walk or hardware update of translation table";
     const ECC: &str = "Synchronous parity or ECC error on memory access";
@@ -378,14 +423,9 @@ fn fault(code: u32) -> Option<String> {
         0x08..=0x0b => format!("Access flag fault, level {level}"),
         0x0c..=0x0f => format!("Permission fault, level {level}"),
         0x10 => format!("Synchronous External abort, not on {UPDATE}"),
-        0x11 => "SError interrupt, of which CM and WnR say nothing".into(),
         0x13 => format!("Synchronous External abort on {UPDATE}, level -1"),
         0x14..=0x17 => format!("Synchronous External abort on {UPDATE}, level {level}"),
         0x18 => format!("{ECC}, not on translation table walk"),
-        0x19 => {
-            let from = "a parity or ECC error on memory access";
-            format!("SError interrupt from {from}, of which CM and WnR say nothing")
-        }
         0x1b => format!("{ECC} on {UPDATE}, level -1"),
         0x1c..=0x1f => format!("{ECC} on {UPDATE}, level {level}"),
         0x21 => "Alignment fault".into(),
@@ -393,122 +433,173 @@ fn fault(code: u32) -> Option<String> {
         0x29 => "Address size fault, level -1".into(),
         0x2b => "Translation fault, level -1".into(),
         0x30 => "TLB conflict abort".into(),
-        0x31 => "Unsupported atomic hardware update fault, WnR of a Data Abort is UNKNOWN".into(),
+        0x31 => "Unsupported atomic hardware update fault".into(),
         0x34 => "IMPLEMENTATION DEFINED fault (Lockdown)".into(),
-        0x35 => {
-            let what = "Unsupported Exclusive or Atomic access";
-            format!("IMPLEMENTATION DEFINED fault ({what}), WnR of ESR is UNKNOWN")
-        }
+        0x35 => "IMPLEMENTATION DEFINED fault (Unsupported Exclusive or Atomic access)".into(),
         _ => return None,
     };
     Some(text)
 }
 
-const CONDITIONS: [&str; 15] =
-    ["EQ", "NE", "CS", "CC", "MI", "PL", "VS", "VC", "HI", "LS", "GE", "LT", "GT", "LE", "AL"];
+/// A fault status code of HSR, whose walks have the levels 1 to 3.
+fn short_fault(code: u32) -> Option<String> {
+    const WALK: &str = "on translation table walk";
+    const ECC: &str = "parity or ECC error on memory access";
+    let level = code % 4;
+    let has_level = |what: String| (level != 0).then(|| format!("{what}, level {level}"));
+    let text = match code {
+        0x00 => "Address size fault, translation table base register".into(),
+        0x10 => format!("Synchronous External abort, not {WALK}"),
+        0x11 => "SError interrupt".into(),
+        0x18 => format!("Synchronous {ECC}, not {WALK}"),
+        0x19 => format!("SError interrupt from a {ECC}"),
+        0x21 => "Alignment fault".into(),
+        0x22 => "Debug exception".into(),
+        0x30 => "TLB conflict abort".into(),
+        0x34 => "IMPLEMENTATION DEFINED fault (Lockdown)".into(),
+        0x35 => "IMPLEMENTATION DEFINED fault (Unsupported Exclusive access)".into(),
+        0x01..=0x0f => {
+            let kinds = ["Address size", "Translation", "Access flag", "Permission"];
+            return has_level(format!("{} fault", kinds[code as usize / 4]));
+        }
+        0x14..=0x17 => return has_level(format!("Synchronous External abort, {WALK}")),
+        0x1c..=0x1f => return has_level(format!("Synchronous {ECC} {WALK}")),
+        _ => return None,
+    };
+    Some(text)
+}
+
+/// A code of an SError interrupt in ESR.
+fn error(code: u32) -> Option<String> {
+    match code {
+        0x00 => Some("Uncategorized error, where the board has RAS".into()),
+        0x11 => Some("Asynchronous SError interrupt".into()),
+        _ => None,
+    }
+}
+
+const LENGTHS: &[&str] = &["16-bit instruction trapped", "32-bit instruction trapped"];
+const VALIDITY: &[&str] = &["The COND field is not valid", "The COND field is valid"];
+const CONDITIONS: &[&str] =
+    &["EQ", "NE", "CS", "CC", "MI", "PL", "VS", "VC", "HI", "LS", "GE", "LT", "GT", "LE", "AL"];
+const WAITS: &[&str] = &["WFI trapped", "WFE trapped"];
+const MCR: &[&str] = &[
+    "Write to System register space, MCR instruction",
+    "Read from System register space, MRC or VMRS instruction",
+];
+const MCRR: &[&str] = &[
+    "Write to System register space, MCRR instruction",
+    "Read from System register space, MRRC instruction",
+];
+const LDC: &[&str] = &["Write to memory, STC instruction", "Read from memory, LDC instruction"];
+const OFFSETS: &[&str] = &["Subtract offset", "Add offset"];
+const ADDRESSING: &[&str] = &[
+    "Immediate unindexed",
+    "Immediate post-indexed",
+    "Immediate offset",
+    "Immediate pre-indexed",
+    "Literal unindexed",
+    "",
+    "Literal offset",
+];
+const PASSES: &[&str] = &[
+    "The instruction was unconditional, or passed its condition code check",
+    "The instruction was conditional, and might have failed its condition code check",
+];
+const ERROR_TYPES: &[&str] = &[
+    "Recoverable state (UER), where the board has RAS",
+    "",
+    "Uncontainable (UC)",
+    "Restartable state (UEO)",
+];
+const FAR: &[&str] = &["FAR is valid", "FAR is not valid, and holds an UNKNOWN value"];
+const HIFAR: &[&str] = &["HIFAR is valid", "HIFAR is not valid, and holds an UNKNOWN value"];
+const HDFAR: &[&str] = &["HDFAR is valid", "HDFAR is not valid, and holds an UNKNOWN value"];
+const EXTERNAL: &[&str] = &["", "IMPLEMENTATION DEFINED classification of External aborts"];
+const WALKS: &[&str] = &[
+    "Fault not on a stage 2 translation for a stage 1 translation table walk",
+    "Fault on the stage 2 translation of an access for a stage 1 translation table walk",
+];
+const STEPS: &[&str] = &["EX bit is RES0", "EX bit is valid"];
+const SYNDROMES: &[&str] =
+    &["No valid instruction syndrome", "ISS[23:14] hold a valid instruction syndrome"];
+const MAINTENANCE: &[&str] = &[
+    "Not from a cache maintenance or address translation instruction",
+    "From a cache maintenance or address translation instruction",
+];
+const ACCESSES: &[&str] = &["Read from a memory location", "Write to a memory location"];
+const SHORT_ASYNCHRONOUS: &[&str] = &[
+    "Uncontainable error (UC) or uncategorized, where the board has RAS",
+    "Unrecoverable error (UEU)",
+    "Restartable error (UEO) or Corrected error (CE)",
+    "Recoverable error (UER)",
+];
+const ASYNCHRONOUS: &[&str] = &[
+    "Uncontainable (UC)",
+    "Unrecoverable state (UEU)",
+    "Restartable state (UEO)",
+    "Recoverable state (UER)",
+    "",
+    "",
+    "Corrected (CE)",
+];
+const SIMD: &[&str] = &[
+    "Exception was not caused by trapped use of Advanced SIMD functionality",
+    "Exception was caused by trapped use of Advanced SIMD functionality",
+];
+const SIZES: &[&str] = &["Byte", "Halfword", "Word"];
+const EXTENSIONS: &[&str] = &["Sign-extension not required", "Data item must be sign-extended"];
+const WIDTHS: &[&str] = &["Instruction loads/stores a 32-bit wide register"];
+const SEMANTICS: &[&str] = &[
+    "Instruction did not have acquire/release semantics",
+    "Instruction did have acquire/release semantics",
+];
+const EXCLUSIVES: &[&str] = &[
+    "An instruction other than a Load-Exclusive instruction was stepped",
+    "A Load-Exclusive instruction was stepped",
+];
 
 /// What a value means, by the name of its field.
 fn meaning(form: &Form, record: &Record, name: &str, value: u32) -> Option<String> {
-    let is_short = form.editions == 2;
-    let is_step = record.class == 0x32;
-    let is_smc = record.class == 0x13;
-    let has_syndrome = record.is_set("ISV");
-    let texts: &[&str] = match name {
-        "IL" => &[
-            "16-bit instruction trapped",
-            "32-bit instruction trapped, or an exception that has this value",
-        ],
-        "CV" if is_smc && value == 0 => &["The COND field is not valid, or CCKNOWNPASS is 0"],
-        "CV" => &["The COND field is not valid", "The COND field is valid"],
-        "COND" if !record.is_set("CV") && is_smc && value == 0 => {
-            &["UNKNOWN, or 0 where CCKNOWNPASS is 0"]
-        }
-        "COND" if !record.is_set("CV") => return Some("UNKNOWN".into()),
-        "COND" => &CONDITIONS,
-        "TI" => &["WFI trapped", "WFE trapped"],
-        "Direction" => return Some(direction(record.class, value)),
-        "Offset" => &["Subtract offset", "Add offset"],
-        "AM" => &[
-            "Immediate unindexed",
-            "Immediate post-indexed",
-            "Immediate offset",
-            "Immediate pre-indexed",
-            "Literal unindexed, Rn is UNKNOWN",
-            "",
-            "Literal offset, Rn is UNKNOWN",
-        ],
-        "CCKNOWNPASS" => &[
-            "The instruction was unconditional, or passed its condition code check",
-            "The instruction was conditional, and might have failed its condition code check",
-        ],
-        "SET" => &[
-            "Recoverable state (UER), where the code is 0x10 and the board has RAS",
-            "",
-            "Uncontainable (UC)",
-            "Restartable state (UEO)",
-        ],
-        "FnV" | "0:FnV" if is_short => {
-            let register = if record.class == 0x20 { "HIFAR" } else { "HDFAR" };
-            return Some(match value {
-                0 => format!("{register} is valid, where the code is 0x10"),
-                _ => format!("{register} is not valid, and holds an UNKNOWN value"),
-            });
-        }
-        "FnV" => &["FAR is valid", "FAR is not valid, and holds an UNKNOWN value"],
-        "EA" => &["", "IMPLEMENTATION DEFINED classification of External aborts"],
-        "S1PTW" => &[
-            "Fault not on a stage 2 translation for a stage 1 translation table walk",
-            "Fault on the stage 2 translation of an access for a stage 1 translation table walk",
-        ],
-        "DFSC" if record.class == 0x2f && value == 0 => {
-            &["Uncategorized error, where the board has RAS"]
-        }
-        "DFSC" if record.class == 0x2f => return Some("Asynchronous SError interrupt".into()),
-        "IFSC" | "DFSC" => return fault(value),
-        "ISV" if is_step => &["EX bit is RES0", "EX bit is valid"],
-        "ISV" => &["No valid instruction syndrome", "ISS[23:14] hold a valid instruction syndrome"],
-        "CM" => &[
-            "Not from a cache maintenance or address translation instruction",
-            "From a cache maintenance or address translation instruction",
-        ],
-        "WnR" => &["Read from a memory location", "Write to a memory location, or CM is 1"],
-        "AET" if is_short => &[
-            "Uncontainable error (UC) or uncategorized, where the board has RAS",
-            "Unrecoverable error (UEU)",
-            "Restartable error (UEO) or Corrected error (CE)",
-            "Recoverable error (UER)",
-        ],
-        "AET" => &[
-            "Uncontainable (UC), where DFSC is 0x11",
-            "Unrecoverable state (UEU)",
-            "Restartable state (UEO)",
-            "Recoverable state (UER)",
-            "",
-            "",
-            "Corrected (CE)",
-        ],
-        "TA" => &[
-            "Exception was not caused by trapped use of Advanced SIMD functionality",
-            "Exception was caused by trapped use of Advanced SIMD functionality",
-        ],
-        "Rt" | "Rt2" if !is_short && record.class != 0x18 => return Some(register(value)),
-        _ if !has_syndrome => &[],
-        "SRT" if !is_short => return Some(register(value)),
-        "SAS" => &["Byte", "Halfword", "Word", "Doubleword"],
-        "SSE" => &["Sign-extension not required", "Data item must be sign-extended"],
-        "SF" => &[
-            "Instruction loads/stores a 32-bit wide register",
-            "Instruction loads/stores a 64-bit wide register",
-        ],
-        "AR" => &[
-            "Instruction did not have acquire/release semantics",
-            "Instruction did have acquire/release semantics",
-        ],
-        "EX" => &[
-            "An instruction other than a Load-Exclusive instruction was stepped",
-            "A Load-Exclusive instruction was stepped",
-        ],
-        _ => &[],
+    match standing(form, record, name) {
+        Standing::Counts => {}
+        Standing::Unknown => return Some("UNKNOWN".into()),
+        Standing::Silent => return None,
+    }
+    let texts = match (name, record.class) {
+        ("IFSC" | "DFSC", _) if is_short(form) => return short_fault(value),
+        ("DFSC", 0x2f) => return error(value),
+        ("IFSC" | "DFSC", _) => return fault(value),
+        ("Rt" | "Rt2" | "Rn" | "SRT", _) if !is_short(form) => return Some(register(value)),
+        ("IL", _) => LENGTHS,
+        ("CV", _) => VALIDITY,
+        ("COND", _) => CONDITIONS,
+        ("TI", _) => WAITS,
+        ("Direction", 0x04 | 0x0c) => MCRR,
+        ("Direction", 0x06) => LDC,
+        ("Direction", _) => MCR,
+        ("Offset", _) => OFFSETS,
+        ("AM", _) => ADDRESSING,
+        ("CCKNOWNPASS", _) => PASSES,
+        ("SET", _) => ERROR_TYPES,
+        ("FnV", 0x20) if is_short(form) => HIFAR,
+        ("0:FnV", _) => HDFAR,
+        ("FnV", _) => FAR,
+        ("EA", _) => EXTERNAL,
+        ("S1PTW", _) => WALKS,
+        ("ISV", 0x32) => STEPS,
+        ("ISV", _) => SYNDROMES,
+        ("CM", _) => MAINTENANCE,
+        ("WnR", _) => ACCESSES,
+        ("AET", _) if is_short(form) => SHORT_ASYNCHRONOUS,
+        ("AET", _) => ASYNCHRONOUS,
+        ("TA", _) => SIMD,
+        ("SAS", _) => SIZES,
+        ("SSE", _) => EXTENSIONS,
+        ("SF", _) => WIDTHS,
+        ("AR", _) => SEMANTICS,
+        ("EX", _) => EXCLUSIVES,
+        _ => return None,
     };
     texts.get(value as usize).filter(|text| !text.is_empty()).map(|&text| text.into())
 }
@@ -532,21 +623,6 @@ fn register(number: u32) -> String {
         29 | 30 => of_mode("fiq", number == 30),
         _ => "register 15 of the instruction".into(),
     }
-}
-
-fn direction(class: u32, value: u32) -> String {
-    let reads = value == 1;
-    let text = match (class, reads) {
-        (0x06, false) => "Write to memory, STC instruction",
-        (0x06, true) => "Read from memory, LDC instruction",
-        (0x04 | 0x0c, false) => "Write to System register space, MCRR instruction",
-        (0x04 | 0x0c, true) => "Read from System register space, MRRC instruction",
-        (0x18, false) => "Write access, including MSR instructions",
-        (0x18, true) => "Read access, including MRS instructions",
-        (_, false) => "Write to System register space, MCR instruction",
-        (_, true) => "Read from System register space, MRC or VMRS instruction",
-    };
-    text.into()
 }
 
 /// Words of every class and kind, in editions that have them and that don't,
@@ -659,11 +735,80 @@ pub fn questions() -> String {
             text += &format!("{edition:x} {word:016x}\n");
         }
     }
-    // Each register, where the three kinds of field that name one stand.
+    // Each register, where the four kinds of field that name one stand, and Rn of a literal form.
     for register in 0..32u32 {
         text += &format!("0 {:016x}\n", 0x0fe0_0001 + (register << 5));
         text += &format!("0 {:016x}\n", 0x13e0_0001 + (register << 10));
         text += &format!("0 {:016x}\n", 0x9380_0005 + (register << 16));
+        text += &format!("0 {:016x}\n", 0x1be0_0005 + (register << 5));
+        text += &format!("0 {:016x}\n", 0x1be0_000d + (register << 5));
+    }
+    // Each condition, valid or not, and Rn of HSR.
+    for condition in 0..16u32 {
+        for word in [0x0600_0000, 0x0700_0000, 0x4e08_0000, 0x4f08_0000] {
+            let word = word + (condition << 20);
+            text += &format!("0 {word:016x}\nshort 0 {word:08x}\n");
+        }
+        text += &format!("short 0 {:08x}\n", 0x1be0_0005 + (condition << 5));
+        text += &format!("short 0 {:08x}\n", 0x1be0_000d + (condition << 5));
+    }
+    // Classes of both forms, and fields that count by another one, which has one value and then the other.
+    let words = [
+        0x0fe8_4c20u32,
+        0x17e0_0001,
+        0x23e7_c001,
+        0x33e1_0801,
+        0x3a00_0000,
+        0x4400_0012,
+        0x4a00_0001,
+        0x13e1_0840, // MCRR
+        0x1be0_0001, // AM
+        0x1be0_0010,
+        0x1be0_0007,
+        0x1be0_0009,
+        0x4e00_0000, // CCKNOWNPASS
+        0x4e08_0000,
+        0x8200_0005, // S1PTW, SET and FnV by the fault code
+        0x8200_0010,
+        0x8200_0410,
+        0x9200_0010,
+        0x9200_0410,
+        0x9200_1c10,
+        0x9200_0085,
+        0x9200_0145, // WnR by CM
+        0x9200_0045,
+        0x9300_0005, // SSE by WnR
+        0x9300_0045,
+        0x9320_0005,
+        0x9340_4005,
+        0x9200_0071, // WnR by the fault code
+        0x9200_0075,
+        0x9200_0035,
+        0x8200_0031,
+        0x9200_0411, // AET by the fault code
+        0x9200_0211,
+        0x9200_0051,
+        0x9200_0059,
+        0xbe00_0000,
+        0xbe00_0011,
+        0xbe00_0411,
+        0xbe00_0811,
+        0xbe00_0c11,
+        0xbe00_1811,
+        0xca00_0022, // EX by ISV
+        0xcb00_0022,
+        0xd200_0062, // WnR of a watchpoint by CM
+        0xd200_0162,
+        0x8800_0000, // IL of a PC alignment fault
+        0x8a00_0000,
+    ];
+    for word in words {
+        for edition in [0, 5] {
+            text += &format!("{edition} {word:016x}\n");
+        }
+        for edition in 0..2 {
+            text += &format!("short {edition} {word:08x}\n");
+        }
     }
     for code in 0..64u32 {
         text += &format!("{:x} {:016x}\n", code % 16, 0x9200_0000 + code);
@@ -782,7 +927,10 @@ const NO_LINES: &str = "x\n\n0 92000005\n0 0x00000000920005\n0 0000000092000005\
 mod tests {
     use super::*;
     use crate::catalogue::class_of;
+    use crate::form::{Family, Kind};
     use crate::syndrome::lacks_il;
+    use std::collections::BTreeSet;
+    use std::sync::LazyLock;
 
     /// Words around some records of each class: up to two bits turned over.
     fn words_around_records(form: &Form) -> Vec<u32> {
@@ -819,19 +967,158 @@ mod tests {
         }
     }
 
-    #[test]
-    fn the_questions_have_every_rule_of_the_short_form() {
-        let mut rules: Vec<&str> = Vec::new();
-        let questions = questions();
-        for line in questions.lines() {
-            if let Some(Question::Short { edition: 0, hsr }) = question(line.as_bytes()) {
-                if word_to_look_up(&SHORT, 0, hsr.into()).is_ok() {
-                    rules.extend(why(&SHORT, hsr));
+    /// Fields that others hang on.
+    const DECIDING: [&str; 7] = ["CV", "CCKNOWNPASS", "AM", "ISV", "CM", "WnR", "code"];
+
+    /// A family with one value of each field that nothing hangs on, but for
+    /// the one that is asked for.
+    fn narrowed(kind: &'static Kind, family: Family, asked: &str) -> Family {
+        let others = kind.fields.iter().filter(|field| {
+            field.name != asked && field.name != "DFSC" && !DECIDING.contains(&field.name)
+        });
+        others.fold(family, |family, field| {
+            let first = (0..field.values()).find(|&value| family.allows(field.name, value));
+            family.with(field.name, first)
+        })
+    }
+
+    /// The lines of all records of a form that say what a value means.
+    fn lines_that_say_something(form: &'static Form) -> BTreeSet<String> {
+        let mut lines = BTreeSet::new();
+        for class in form.every_class() {
+            let kind = form.kind_of_class(class).expect("a class of the form");
+            for edition in form.every_edition() {
+                for family in (form.families)(kind, class, edition) {
+                    for field in kind.fields {
+                        let family = narrowed(kind, family.clone(), field.name);
+                        family.each(class, &mut |values, _| {
+                            let values = values.to_vec();
+                            let record = Record { kind, class: class.into(), values };
+                            let text = fields(form, &record);
+                            lines.extend(text.lines().filter(is_said).map(String::from));
+                        });
+                    }
                 }
             }
         }
-        rules.sort_unstable();
-        rules.dedup();
-        assert_eq!(rules.len(), 20);
+        lines
+    }
+
+    fn is_said(line: &&str) -> bool {
+        line.split_once(" = ").is_some_and(|(_, value)| value.contains(": "))
+    }
+
+    /// The lines of the stored answers, on the long form and on the short one.
+    static STORED: LazyLock<[BTreeSet<String>; 2]> = LazyLock::new(|| {
+        let questions = questions();
+        [false, true].map(|is_short| {
+            let own = questions.lines().filter(|line| line.starts_with("short") == is_short);
+            let input = own.map(|line| format!("{line}\n")).collect::<String>();
+            let answers = String::from_utf8(explain(input.as_bytes())).expect("text");
+            answers.lines().map(String::from).collect()
+        })
+    });
+
+    fn stored_lines(form: &Form) -> &'static BTreeSet<String> {
+        &STORED[usize::from(is_short(form))]
+    }
+
+    /// The texts of the tables that a form's fields go by.
+    fn texts_of_the_tables(form: &Form) -> Vec<String> {
+        let both = [
+            LENGTHS,
+            VALIDITY,
+            CONDITIONS,
+            WAITS,
+            MCR,
+            MCRR,
+            LDC,
+            OFFSETS,
+            ADDRESSING,
+            PASSES,
+            EXTERNAL,
+            WALKS,
+            SYNDROMES,
+            MAINTENANCE,
+            ACCESSES,
+            SIZES,
+            EXTENSIONS,
+            SEMANTICS,
+        ];
+        let own: &[&[&str]] = match is_short(form) {
+            true => &[HIFAR, HDFAR, SHORT_ASYNCHRONOUS, SIMD],
+            false => &[FAR, ERROR_TYPES, STEPS, ASYNCHRONOUS, WIDTHS, EXCLUSIVES],
+        };
+        let tables = both.iter().chain(own).flat_map(|table| table.iter());
+        let tables = tables.filter(|text| !text.is_empty()).map(|&text| Some(text.into()));
+        let of_form = |code| match is_short(form) {
+            true => [short_fault(code), None, None],
+            false => [fault(code), error(code), (code < 32).then(|| register(code))],
+        };
+        let numbered =
+            (0..64).flat_map(|n| of_form(n).into_iter().chain([class_name(is_short(form), n)]));
+        tables.chain(numbered).flatten().collect()
+    }
+
+    #[test]
+    fn the_stored_answers_have_every_text() {
+        for form in [&LONG, &SHORT] {
+            let stored = stored_lines(form);
+            let reached = lines_that_say_something(form);
+            let missing: Vec<&String> = reached.difference(stored).collect();
+            assert!(missing.is_empty(), "{missing:#?}");
+            let said = stored.iter().filter_map(|line| line.split_once(": "));
+            let said: BTreeSet<&str> = said.map(|(_, text)| text).collect();
+            let texts = texts_of_the_tables(form);
+            let unused: Vec<&String> =
+                texts.iter().filter(|text| !said.contains(text.as_str())).collect();
+            assert!(unused.is_empty(), "{unused:#?}");
+        }
+    }
+
+    /// What is said beside the fields. "refused 1: the edition is above 15"
+    /// is missing: no such edition can be typed.
+    const OTHER_LINES: [&str; 25] = [
+        "taken",
+        "no line",
+        "refused 1: the edition is above 1",
+        "refused 2: bits 63:32 of the syndrome are not zero",
+        "refused 3: EC 31:26 is no class of the build from AArch32",
+        "refused 3: EC 31:26 is no class of the build in the short form",
+        "refused 4: IL 25 is 0 where it must be 1",
+        "refused 5: no edition has it",
+        "refused 6: this edition doesn't have it, others do",
+        "refused 7: a bit of HPFAR outside 39:4 is set",
+        "refused 7: a bit of HPFAR outside 43:4 is set",
+        "refused 8: bits 63:32 of FAR are not zero",
+        "needs LPA2",
+        "needs HAFDBS",
+        "needs RAS",
+        "not with RAS",
+        "editions 0",
+        "editions 1",
+        "virtual address 0x8abc: FAR",
+        "virtual address not known: FnV is 1, and FAR holds an UNKNOWN value",
+        "intermediate address 0x1234000: the page in HPFAR alone, since S1PTW is 1",
+        "intermediate address 0x1234abc: the page in HPFAR with FAR 11:0",
+        "intermediate address not known: this code, with this S1PTW, leaves HPFAR UNKNOWN",
+        "no intermediate address: this class has none",
+        "no address: this class has none",
+    ];
+
+    #[test]
+    fn the_stored_answers_have_every_other_line() {
+        let [long, short] = &*STORED;
+        for line in OTHER_LINES {
+            assert!(long.contains(line) || short.contains(line), "{line}");
+        }
+    }
+
+    #[test]
+    fn the_stored_answers_have_every_rule() {
+        for lines in &*STORED {
+            let rules = lines.iter().filter(|line| line.starts_with("why: "));
+            assert_eq!(rules.count(), 20);
+        }
     }
 }

@@ -93,8 +93,9 @@ fn length(record: &Record) -> u64 {
 /// The state past an instruction that is stepped over, or the number of the refusal.
 pub fn step_over(catalogue: &Catalogue, state: &State, record: &Record) -> Result<State, u8> {
     let status = tested(catalogue, state, record)?;
-    // A watchpoint has CM as well, and is no cache maintenance.
-    let maintenance = record.class == 0x24 && record.is_set("CM");
+    // A watchpoint has CM as well, and is no cache maintenance; and an instruction on whose
+    // walk the fault came has still to be executed.
+    let maintenance = record.class == 0x24 && record.is_set("CM") && !record.is_set("S1PTW");
     if !matches!(record.class, 0x01 | 0x13) && !maintenance && passes(&status, record) {
         return Err(18);
     }

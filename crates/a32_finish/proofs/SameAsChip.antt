@@ -7,9 +7,10 @@ use mathlib.Core.List.{List, [], _∷_}
 use Prim.Native.Nat.{ℕ, _≤_, min}
 use native.Mathlib.Omega.{arith}
 use lib.Dec.{eqb}
-use lib.ListN.{getD, length}
+use lib.ListN.{getD, length, replicate}
 use borrow.Author.Tests.{le-leb, ne-eqb}
 use Rattle.bits.specs.Field.{fieldOf}
+use Rattle.edition.specs.Mask.{maskOf}
 use Rattle.record.specs.declared.kinds.DataAbort.{DataAbort}
 use Rattle.record.specs.declared.kinds.Record.{Record}
 use Rattle.status.specs.declared.Held.{Held}
@@ -19,6 +20,7 @@ use Rattle.status.specs.Sound.{sound}
 use Rattle.status.proofs.Again.{is-sound}
 use Rattle.exception.specs.declared.state.Guest.{Guest}
 use Rattle.exception.specs.State.{registerIn, withRegister}
+use Rattle.rule.specs.Has.{lawful, has}
 use Rattle.step.specs.Over.{had}
 use Rattle.step.specs.Step.{stepped}
 use Rattle.device.specs.Data.{transferred, extended}
@@ -26,7 +28,9 @@ use Rattle.device.specs.Finish as device
 use Rattle.device.specs.declared.answer.Answer.the-variants as device-answer
 use Rattle.device.specs.declared.access.Finished.{Finished as DeviceFinished}
 use Rattle.device.proofs.Answers as device-laws
+use Rattle.a32_fields.specs.Layout.{fieldsWord}
 use Rattle.a32_fields.specs.declared.kinds.Fields.{Fields}
+use Rattle.a32_fields.specs.declared.kinds.Transfer.the-variants.{Ldr, Str}
 use Rattle.a32_rule.specs.Legal.{legal}
 use Rattle.a32_access.specs.declared.access.Access.{Access}
 use Rattle.a32_access.specs.Transferred.{registersOf, countOf, padded}
@@ -199,3 +203,65 @@ module _ (s : Guest) (w : ℕ) (f : Fields) (t : ℕ) (r : DataAbort) (values : 
       ap (λ (x : DeviceFinished). x .answer) (sym chip ∙ accessed-store l)
       ∙ ap device-answer.Stored (sym given-first)
       ∙ ap (λ (x : Finished). device-answer.Stored (getD (x .outcome .values) 0 0)) (sym (performed-store l) ∙ word)
+
+-- ---- the two speak of something
+
+-- User mode, with every register 0
+abbrev pub userState : Guest
+userState =
+    record {
+      regs = replicate 31 0;
+      pc = 0;
+      status = 0x10;
+      saved = record { fiq = 0; irq = 0; svc = 0; abt = 0; und = 0 };
+      faults = record { dfsr = 0; ifsr = 0; dfar = 0; ifar = 0 };
+      sctlr = 0;
+      vbar = 0;
+      ttbcr = 0;
+      marks = record { pan = false; ssbs = false; dit = false };
+    }
+
+-- LDR r2, [r1], or STR r2, [r1]
+abbrev pub sample : Bool → Fields
+sample load =
+    Fields.Immediate record { transfer = cond load Ldr Str; cond = 14; p = true; u = true; w = false; rn = 1; rt = 2; imm = 0 }
+
+-- what the chip says of it, at a translation fault of level 1
+abbrev pub sampleRecord : Bool → DataAbort
+sampleRecord load =
+    record {
+      il = true;
+      isv = true;
+      sas = 2;
+      sse = false;
+      srt = 2;
+      sf = false;
+      ar = false;
+      set = 0;
+      fnv = false;
+      ea = false;
+      cm = false;
+      s1ptw = false;
+      wnr = not load;
+      code = 5;
+    }
+
+-- A LOAD AND A STORE of which all that `same-state` asks for holds
+pub same-asked : (load : Bool) → One (sample load) 2 × Tells userState (sample load) 2 (sampleRecord load)
+    × (describedAnswer userState (fieldsWord (sample load)) ≡ described.Taken (accessOf userState (sample load)))
+    × (had (Record.DataAbort (sampleRecord load)) ≡ true)
+unfolding registersOf numberIn sound isMode legal maskOf has lawful
+same-asked true = (
+  record { registers = refl; stays = refl; below = omega arith },
+  record { isv = refl; sas = refl; sse = refl; srt = refl; wnr = refl; il = refl },
+  described-exactly userState (fieldsWord (sample true)) (accessOf userState (sample true)) .1
+      (refl, refl, (sample true, refl, refl, refl)),
+  refl,
+)
+same-asked false = (
+  record { registers = refl; stays = refl; below = omega arith },
+  record { isv = refl; sas = refl; sse = refl; srt = refl; wnr = refl; il = refl },
+  described-exactly userState (fieldsWord (sample false)) (accessOf userState (sample false)) .1
+      (refl, refl, (sample false, refl, refl, refl)),
+  refl,
+)

@@ -13,7 +13,7 @@ virtualKnown fnv code = not (eqb code 0x10 && fnv)
 abbrev pub intermediateKnown : Bool → ℕ → Bool
 intermediateKnown s1ptw code = leb code 0x0B || eqb code 0x29 || eqb code 0x2B || between 0x0C 0x0F code && s1ptw
 
--- the virtual address is FAR: of an abort, and of class 0x22, always
+-- the virtual address is FAR: of an abort where it is known, and of classes 0x22 and, since C-20, 0x34 always
 abbrev pub farCounts : Addresses → Bool
 farCounts Addresses.None = false
 farCounts Addresses.Virtual = true

@@ -74,7 +74,7 @@ fn write_question() {
         return;
     }
     let out = input::front(&mut buffer, room);
-    let answer = log_rewrite::write(
+    let answer = log_rewrite::write_raw(
         input::first_bytes(&editions, e),
         input::first_words(&syndromes, s),
         input::first_words(&fars, f),

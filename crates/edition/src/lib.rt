@@ -24,7 +24,7 @@ pub enum Refusal {
     UnknownEdition,
     // 2: bits 63:32 of the syndrome are not zero.
     UpperHalf,
-    // 3: the exception class is not in the build.
+    // 3: the exception class is not in the build, or not among those of the trap's origin or of the form.
     UnknownClass,
     // 4: IL is 0, a 16-bit instruction, where it must be 1.
     ShortInstruction,

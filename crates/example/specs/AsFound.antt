@@ -1,5 +1,5 @@
 -- What an answer leaves of the guest: where the monitor has the access still to make, and where nothing was done, the state is as it was
--- found. Of the other answers nothing is said.
+-- found.
 use mathlib.Core.Path.{_≡_}
 use Rattle.exception.specs.declared.state.Guest.{Guest}
 use Rattle.example.specs.declared.Next.{Next}

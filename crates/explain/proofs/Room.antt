@@ -33,7 +33,7 @@ use Rattle.explain.specs.Lines.{answersIn}
 -- the fields of a word of the short form
 short-word-length : (w : ℕ) → length (ShortLines.wordText w) ≤ 3120
 unfolding ShortLines.wordText
-short-word-length w = shape-length (ShortLines.shapeOf (fieldOf w 31 26) (fieldOf w 24 24) (fieldOf w 5 0)) w
+short-word-length w = shape-length (ShortLines.shapeOf (fieldOf w 31 26) (fieldOf w 5 0)) w
 
 short-length : (w : ℕ) (a : ShortRead.Read) → length (ShortLines.readLines w a) ≤ 4096
 short-length w (ShortRead.Read.Taken r) =

@@ -19,7 +19,7 @@ use Rattle.field_text.proofs.Room.{shape-length}
 use Rattle.reason.specs.Reason.{whyOf}
 use Rattle.record.specs.declared.kinds.Esr.{Esr}
 use Rattle.record.specs.declared.origin.Origin.{Origin}
-use Rattle.record_text.specs.Inner.{wordText, shapeOf}
+use Rattle.record_text.specs.Inner.{wordText}
 use Rattle.refusal_text.specs.Refusal.{refusalText}
 use Rattle.refusal_text.specs.Why.{whyText}
 use Rattle.refusal_text.proofs.Room.{refusal-length, why-length}
@@ -39,7 +39,7 @@ use Rattle.explain_text.proofs.Said.{read-said, answer-said}
 -- the fields of a word
 word-length : (w : ℕ) → length (wordText w) ≤ 3120
 unfolding wordText
-word-length w = shape-length (shapeOf (fieldOf w 31 26) (fieldOf w 24 24)) w
+word-length w = shape-length (fieldOf w 31 26) w
 
 -- one text after another
 pub joined : (a b : List ℕ) (m n : ℕ) {top : ℕ} → length a ≤ m → length b ≤ n → m + n ≤ top → length (a ++ b) ≤ top

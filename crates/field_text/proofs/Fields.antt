@@ -21,6 +21,6 @@ rows-said w (n ∷ ns) [] b = refl
 rows-said w (n ∷ ns) (f ∷ fs) b =
     ap₂ (λ (line others : List ℕ). line ++ others) (ap (lineText n (highOf f) (lowOf f)) (b .0)) (rows-said w ns fs (b .1))
 
-pub shape-said : (w shape : ℕ) (ns : List Name) (fs : List Field) → shapeRows shape ≡ rowsOf ns fs → AllBack w fs
+pub shape-said : (w shape : ℕ) (ns : List Name) (fs : List Field) → shapeRows shape w ≡ rowsOf ns fs → AllBack w fs
     → shapeText shape w ≡ fieldsText ns fs
 shape-said w shape ns fs same b = ap (rowsText w) same ∙ rows-said w ns fs b

@@ -29,7 +29,7 @@ pub(crate) fn field_line(
     low: u32,
     list: u32,
 ) -> usize
-    ensures { λ end. ⌜ Appends (lineText (nameOf label list) high low (fieldOf word high low)) (now (out .entry)) at (now (out .exit)) end ⌝ }
+    ensures { λ end. ⌜ Appends (lineText (nameOf label (valuesAt list)) high low (fieldOf word high low)) (now (out .entry)) at (now (out .exit)) end ⌝ }
 {
     let value = bits::field(word, high, low);
     let name = names::label(out, at, label);

@@ -5,11 +5,12 @@ ghost use Rattle.field_text.specs.Rows.{rowsFrom, rowsText, shapeText};
 
 mod field;
 mod shape;
+mod test;
 
 // n rows from the first on, over a word.
 fn rows_lines(out: &mut [u8], at: usize, word: u64, first: usize, n: usize) -> usize
-    requires { ⌜ first + n ≤ 210 ⌝ }
-    ensures { λ end. ⌜ Appends (rowsText word (rowsFrom first n)) (now (out .entry)) at (now (out .exit)) end ⌝ }
+    requires { ⌜ first + n ≤ 165 ⌝ }
+    ensures { λ end. ⌜ Appends (rowsText word (rowsFrom word first n)) (now (out .entry)) at (now (out .exit)) end ⌝ }
 {
     let mut end = at;
     let mut i = 0;
@@ -20,14 +21,12 @@ fn rows_lines(out: &mut [u8], at: usize, word: u64, first: usize, n: usize) -> u
     end
 }
 
-// The lines of a shape over a word. A shape that there is none of has EC and IL alone.
+// The lines of a shape over a word, of which a shape that there is none of has none.
 pub fn lines(out: &mut [u8], at: usize, shape: usize, word: u64) -> usize
     ensures { λ end. ⌜ Appends (shapeText shape word) (now (out .entry)) at (now (out .exit)) end ⌝ }
 {
-    let head = rows_lines(out, at, word, 0, 2);
     if shape < shape::SHAPES {
-        rows_lines(out, head, word, shape::first(shape), shape::count(shape))
-    } else {
-        head
+        return rows_lines(out, at, word, shape::first(shape), shape::count(shape));
     }
+    at
 }

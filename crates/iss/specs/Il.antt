@@ -5,7 +5,7 @@ use mathlib.Core.Bool.{Bool, not, _&&_, _||_}
 use lib.Dec.{eqb}
 use Rattle.iss.specs.Rule.{between}
 
--- of the trapped instructions only WFI, WFE and SVC have a 16-bit form: 0x03 to 0x08, 0x0C, 0x12 and 0x13 have none
+-- of 01's trapped instructions only WFI, WFE and SVC have a 16-bit form: 0x03 to 0x08, 0x0C, 0x12 and 0x13 have none
 abbrev pub wideOnly : ℕ → Bool
 wideOnly class = between 0x03 0x08 class || eqb class 0x0C || eqb class 0x12 || eqb class 0x13
 

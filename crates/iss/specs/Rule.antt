@@ -54,6 +54,6 @@ maintenanceRule cm wnr = implies cm wnr
 abbrev pub directionRule : ℕ → Bool → Bool
 directionRule class direction = implies (eqb class 0x08 || eqb class 0x0C) direction
 
--- 02, C-13: IL 0 is an SVC of 16 bits, whose immediate is at most 255
+-- 02, C-13 and C-20: IL 0 is an SVC or a BKPT of 16 bits, whose immediate is at most 255
 abbrev pub immediateRule : Bool → ℕ → Bool
 immediateRule il imm16 = il || leb imm16 255

@@ -88,7 +88,7 @@ pub fn direction_rule(class: u32, direction: bool) -> bool
     !((class == 0x08) | (class == 0x0C)) | direction
 }
 
-// The 16-bit form of an SVC has an immediate of 8 bits.
+// The 16-bit form of an SVC, or of a BKPT, has an immediate of 8 bits.
 pub fn immediate_rule(il: bool, imm16: u32) -> bool
     ensures { λ yes. ⌜ yes ≡ immediateRule il imm16 ⌝ }
 {

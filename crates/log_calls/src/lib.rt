@@ -111,7 +111,7 @@ pub extern "C" fn knucklepin_log_write_raw<'a, 'b>(
 ) -> u32
     ensures { λ n. ⌜ WrittenLog record { editions = now (editions .entry); syndromes = now (syndromes .entry); fars = now (fars .entry); hpfars = now (hpfars .entry); injections = now (injections .entry) } (now (buffer .entry)) n (now (buffer .exit)) (now (length .exit)) ⌝ }
 {
-    let written = log_rewrite::write(editions, syndromes, fars, hpfars, injections, buffer);
+    let written = log_rewrite::write_raw(editions, syndromes, fars, hpfars, injections, buffer);
     *length = log_writer::length_in(written) as u64;
     log_writer::number_of(written)
 }

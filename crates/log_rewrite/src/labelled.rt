@@ -1,4 +1,4 @@
-// The writer, as a program of its own calls it: each slice of words gets its kind here.
+// The writer for callers that have no types for the three kinds of words.
 ghost use Rattle.log_writer.specs.Lists.{Lists};
 ghost use Rattle.log_writer.specs.Write.{Writing};
 use log_writer::Fars;
@@ -6,7 +6,9 @@ use log_writer::Hpfars;
 use log_writer::Syndromes;
 use log_writer::Written;
 
-pub fn write<'a, 'b>(
+// Writes a log from plain slices of words, which a caller can exchange unseen: for the border to C alone, where a slice is a pointer and a
+// length, and the header gives the words their types. Everyone else calls `log_writer::write`.
+pub fn write_raw<'a, 'b>(
     editions: &'a [u8],
     syndromes: &'a [u64],
     fars: &'a [u64],

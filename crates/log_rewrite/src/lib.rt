@@ -8,7 +8,7 @@ ghost use Rattle.log_rewrite.specs.Rewrite.{Taken, Rewriting};
 mod entries;
 mod labelled;
 
-pub use labelled::write;
+pub use labelled::write_raw;
 use log::Read;
 use log_writer::Written;
 
@@ -40,7 +40,7 @@ fn written(log: &[u8], out: &mut [u8]) -> Written
     entries::words(log, 2, true, &mut hpfars);
     entries::injections(log, &mut injections);
     let editions = entries::bytes(log, 0);
-    labelled::write(
+    labelled::write_raw(
         editions,
         &syndromes[0..traps],
         &fars[0..traps],

@@ -1,4 +1,4 @@
--- Requests C-14 and C-21: a log as lines of text, for the fitter. The first line tells how the log was read.
+-- Requests C-14 and C-21: a log as lines of text. The first line tells how the log was read.
 use Prim.Native.Nat.{ℕ}
 use mathlib.Core.Bool.{cond}
 use mathlib.Core.List.{List, [], _++_}

@@ -11,26 +11,26 @@ use Rattle.names.specs.Table.{labels, sources, lists, texts, together, s
 use Rattle.names.proofs.Cut.{ends-at, ends-within, cut-at, entry-at}
 
 -- how many there are
-texts-many : length texts ≡ 363
+texts-many : length texts ≡ 438
 unfolding texts lists labels sources
 texts-many = refl
 
-bytes-many : length (together texts) ≡ 8545
+bytes-many : length (together texts) ≡ 9643
 unfolding texts lists labels sources
 bytes-many = refl
 
-pub lists-many : length lists ≡ 40
+pub lists-many : length lists ≡ 39
 unfolding lists labels sources
 lists-many = refl
 
-module _ (n : ℕ) (h : n < 363) where
+module _ (n : ℕ) (h : n < 438) where
   known : n < length texts
   known = rw texts-many h
 
   pub text-rises : getD (startsFrom 0 texts) n 0 ≤ getD (startsFrom 0 texts) (n + 1) 0
   text-rises = rw add-one (omega (arith, ends-at texts n known))
 
-  pub text-within : getD (startsFrom 0 texts) (n + 1) 0 ≤ 8545
+  pub text-within : getD (startsFrom 0 texts) (n + 1) 0 ≤ 9643
   text-within = rw add-one (rw bytes-many at (ends-within texts n known))
 
   pub text-cut : take (getD (startsFrom 0 texts) (n + 1) 0 - getD (startsFrom 0 texts) n 0)
@@ -38,14 +38,14 @@ module _ (n : ℕ) (h : n < 363) where
       ≡ getD texts n []
   text-cut = rw add-one (cut-at texts n known)
 
-module _ (k : ℕ) (h : k < 40) where
+module _ (k : ℕ) (h : k < 39) where
   listed : k < length lists
   listed = rw lists-many h
 
   pub list-size : getD (startsFrom 0 lists) (k + 1) 0 ≡ getD (startsFrom 0 lists) k 0 + length (getD lists k [])
   list-size = rw add-one (ends-at lists k listed)
 
-  pub list-within : getD (startsFrom 0 lists) (k + 1) 0 ≤ 363
+  pub list-within : getD (startsFrom 0 lists) (k + 1) 0 ≤ 438
   unfolding texts
   list-within = rw add-one (rw texts-many at (ends-within lists k listed))
 

@@ -5,13 +5,12 @@ use mathlib.Core.List.{List, [], _∷_, _++_, map}
 use lib.ListN.{length, getD}
 use Rattle.text.specs.Ascii.{ascii}
 use Rattle.names.specs.Name.{Entry, meaningOf}
-use Rattle.names.specs.Class.{classes}
-use Rattle.names.specs.Code.{faultCodes, errorCodes}
-use Rattle.names.specs.Value.{lengths, validity, conditions, noCondition, waits, mcrDirections, mcrrDirections, offsets}
+use Rattle.names.specs.Class.{classes, shortClasses}
+use Rattle.names.specs.Code.{faultCodes, shortCodes, errorCodes}
+use Rattle.names.specs.Value.{lengths, validity, conditions, unknown, waits, mcrDirections, mcrrDirections, offsets}
 use Rattle.names.specs.Value.{addressingModes, ldcDirections, passes, errorTypes, farValidity, walks, syndromeValidity, sizes}
 use Rattle.names.specs.Value.{extensions, widths, semantics, maintenance, accesses, stepValidity, exclusives, asynchronousTypes}
-use Rattle.names.specs.Value.{systemDirections, simdUses, shortTypes, reasons, injections, passValidity, passNoCondition, registers, externalTypes}
-use Rattle.names.specs.Value.{hifarValidity, hdfarValidity}
+use Rattle.names.specs.Value.{simdUses, shortTypes, reasons, injections, hifarValidity, registers, externalTypes, hdfarValidity}
 
 unfoldable pub labels : List (List ℕ)
 labels =
@@ -19,7 +18,7 @@ labels =
     ∷ ascii "CRm" ∷ ascii "Direction" ∷ ascii "Rt2" ∷ ascii "imm8" ∷ ascii "Rn" ∷ ascii "Offset" ∷ ascii "AM" ∷ ascii "imm16"
     ∷ ascii "Comment" ∷ ascii "CCKNOWNPASS" ∷ ascii "SET" ∷ ascii "FnV" ∷ ascii "EA" ∷ ascii "S1PTW" ∷ ascii "IFSC" ∷ ascii "ISV"
     ∷ ascii "SAS" ∷ ascii "SSE" ∷ ascii "SRT" ∷ ascii "SF" ∷ ascii "AR" ∷ ascii "CM" ∷ ascii "WnR" ∷ ascii "DFSC" ∷ ascii "EX"
-    ∷ ascii "AET" ∷ ascii "Op0" ∷ ascii "Op2" ∷ ascii "Op1" ∷ ascii "TA" ∷ ascii "coproc" ∷ ascii "0:FnV"
+    ∷ ascii "AET" ∷ ascii "TA" ∷ ascii "coproc" ∷ ascii "0:FnV"
     ∷ []
 
 pub record Source : Type 0 where
@@ -34,14 +33,13 @@ noSource = source 0 []
 
 unfoldable pub sources : List Source
 sources =
-    noSource ∷ source 64 classes ∷ source 2 lengths ∷ source 2 validity ∷ source 15 conditions ∷ source 16 noCondition
-    ∷ source 2 waits ∷ source 2 mcrDirections ∷ source 2 mcrrDirections ∷ source 2 offsets ∷ source 8 addressingModes
-    ∷ source 2 ldcDirections ∷ source 2 passes ∷ source 4 errorTypes ∷ source 2 farValidity ∷ source 2 walks ∷ source 54 faultCodes
-    ∷ source 2 syndromeValidity ∷ source 4 sizes ∷ source 2 extensions ∷ source 2 widths ∷ source 2 semantics
-    ∷ source 2 maintenance ∷ source 2 accesses ∷ source 2 stepValidity ∷ source 2 exclusives ∷ source 8 asynchronousTypes
-    ∷ source 18 errorCodes ∷ source 2 systemDirections ∷ source 2 simdUses ∷ source 4 shortTypes ∷ source 26 reasons
-    ∷ source 5 injections ∷ source 2 passValidity ∷ source 16 passNoCondition ∷ source 32 registers ∷ source 2 externalTypes
-    ∷ source 2 hifarValidity ∷ source 2 hdfarValidity
+    noSource ∷ source 59 classes ∷ source 2 lengths ∷ source 2 validity ∷ source 15 conditions ∷ source 32 unknown ∷ source 2 waits
+    ∷ source 2 mcrDirections ∷ source 2 mcrrDirections ∷ source 2 offsets ∷ source 7 addressingModes ∷ source 2 ldcDirections
+    ∷ source 2 passes ∷ source 4 errorTypes ∷ source 2 farValidity ∷ source 2 walks ∷ source 54 faultCodes ∷ source 2 syndromeValidity
+    ∷ source 3 sizes ∷ source 2 extensions ∷ source 1 widths ∷ source 2 semantics ∷ source 2 maintenance ∷ source 2 accesses
+    ∷ source 2 stepValidity ∷ source 2 exclusives ∷ source 7 asynchronousTypes ∷ source 18 errorCodes ∷ source 37 shortClasses
+    ∷ source 2 simdUses ∷ source 4 shortTypes ∷ source 26 reasons ∷ source 5 injections ∷ source 54 shortCodes ∷ source 2 hifarValidity
+    ∷ source 32 registers ∷ source 2 externalTypes ∷ source 2 hdfarValidity
     ∷ []
 
 -- label n, and the values of list m

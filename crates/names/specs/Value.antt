@@ -1,5 +1,6 @@
 -- What the values of the other fields mean (source 001; TA and the short form's AET and FnV by source 004; COND by the manual's table of
 -- condition codes, and registers by its mapping). A value that is missing has no meaning in the build.
+use Prim.Native.Nat.{ℕ, zero, suc}
 use mathlib.Core.List.{List, [], _∷_}
 use Rattle.names.specs.Name.{Entry, means}
 
@@ -7,8 +8,16 @@ use Rattle.names.specs.Name.{Entry, means}
 abbrev pub lengths : List Entry
 lengths =
     means 0 "16-bit instruction trapped"
-    ∷ means 1 "32-bit instruction trapped, or an exception that has this value"
+    ∷ means 1 "32-bit instruction trapped"
     ∷ []
+
+-- a field that is UNKNOWN, whatever its value: one of at most five bits
+abbrev alike : ℕ → List Entry
+alike zero = []
+alike (suc n) = means n "UNKNOWN" ∷ alike n
+
+abbrev pub unknown : List Entry
+unknown = alike 32
 
 -- CV
 abbrev pub validity : List Entry
@@ -37,55 +46,7 @@ conditions =
     ∷ means 14 "AL"
     ∷ []
 
--- COND, where CV is 0
-abbrev pub noCondition : List Entry
-noCondition =
-    means 0 "UNKNOWN"
-    ∷ means 1 "UNKNOWN"
-    ∷ means 2 "UNKNOWN"
-    ∷ means 3 "UNKNOWN"
-    ∷ means 4 "UNKNOWN"
-    ∷ means 5 "UNKNOWN"
-    ∷ means 6 "UNKNOWN"
-    ∷ means 7 "UNKNOWN"
-    ∷ means 8 "UNKNOWN"
-    ∷ means 9 "UNKNOWN"
-    ∷ means 10 "UNKNOWN"
-    ∷ means 11 "UNKNOWN"
-    ∷ means 12 "UNKNOWN"
-    ∷ means 13 "UNKNOWN"
-    ∷ means 14 "UNKNOWN"
-    ∷ means 15 "UNKNOWN"
-    ∷ []
-
--- CV and COND of an SMC, which are 0 where CCKNOWNPASS is 0
-abbrev pub passValidity : List Entry
-passValidity =
-    means 0 "The COND field is not valid, or CCKNOWNPASS is 0"
-    ∷ means 1 "The COND field is valid"
-    ∷ []
-
-abbrev pub passNoCondition : List Entry
-passNoCondition =
-    means 0 "UNKNOWN, or 0 where CCKNOWNPASS is 0"
-    ∷ means 1 "UNKNOWN"
-    ∷ means 2 "UNKNOWN"
-    ∷ means 3 "UNKNOWN"
-    ∷ means 4 "UNKNOWN"
-    ∷ means 5 "UNKNOWN"
-    ∷ means 6 "UNKNOWN"
-    ∷ means 7 "UNKNOWN"
-    ∷ means 8 "UNKNOWN"
-    ∷ means 9 "UNKNOWN"
-    ∷ means 10 "UNKNOWN"
-    ∷ means 11 "UNKNOWN"
-    ∷ means 12 "UNKNOWN"
-    ∷ means 13 "UNKNOWN"
-    ∷ means 14 "UNKNOWN"
-    ∷ means 15 "UNKNOWN"
-    ∷ []
-
--- Rt, Rt2 and SRT of the long form, which are the AArch64 view of an AArch32 register (the manual's mapping of the general-purpose
+-- Rt, Rt2, Rn and SRT of the long form, which are the AArch64 view of an AArch32 register (the manual's mapping of the general-purpose
 -- registers between the Execution states)
 abbrev pub registers : List Entry
 registers =
@@ -158,8 +119,8 @@ addressingModes =
     ∷ means 1 "Immediate post-indexed"
     ∷ means 2 "Immediate offset"
     ∷ means 3 "Immediate pre-indexed"
-    ∷ means 4 "Literal unindexed, Rn is UNKNOWN"
-    ∷ means 6 "Literal offset, Rn is UNKNOWN"
+    ∷ means 4 "Literal unindexed"
+    ∷ means 6 "Literal offset"
     ∷ []
 
 -- Direction of an LDC or STC
@@ -176,15 +137,15 @@ passes =
     ∷ means 1 "The instruction was conditional, and might have failed its condition code check"
     ∷ []
 
--- SET
+-- SET, where the code is 0x10
 abbrev pub errorTypes : List Entry
 errorTypes =
-    means 0 "Recoverable state (UER), where the code is 0x10 and the board has RAS"
+    means 0 "Recoverable state (UER), where the board has RAS"
     ∷ means 2 "Uncontainable (UC)"
     ∷ means 3 "Restartable state (UEO)"
     ∷ []
 
--- FnV: of the long form; of the short form's instruction aborts; of its data aborts
+-- FnV, where the code is 0x10: of the long form; of the short form's instruction aborts; of its data aborts
 abbrev pub farValidity : List Entry
 farValidity =
     means 0 "FAR is valid"
@@ -193,13 +154,13 @@ farValidity =
 
 abbrev pub hifarValidity : List Entry
 hifarValidity =
-    means 0 "HIFAR is valid, where the code is 0x10"
+    means 0 "HIFAR is valid"
     ∷ means 1 "HIFAR is not valid, and holds an UNKNOWN value"
     ∷ []
 
 abbrev pub hdfarValidity : List Entry
 hdfarValidity =
-    means 0 "HDFAR is valid, where the code is 0x10"
+    means 0 "HDFAR is valid"
     ∷ means 1 "HDFAR is not valid, and holds an UNKNOWN value"
     ∷ []
 
@@ -209,7 +170,7 @@ externalTypes =
     means 1 "IMPLEMENTATION DEFINED classification of External aborts"
     ∷ []
 
--- S1PTW
+-- S1PTW, where the code is an MMU fault
 abbrev pub walks : List Entry
 walks =
     means 0 "Fault not on a stage 2 translation for a stage 1 translation table walk"
@@ -223,16 +184,15 @@ syndromeValidity =
     ∷ means 1 "ISS[23:14] hold a valid instruction syndrome"
     ∷ []
 
--- SAS, where ISV is 1
+-- SAS, where ISV is 1: no access of an AArch32 guest that is described has eight bytes, or a register of 64 bits (SF)
 abbrev pub sizes : List Entry
 sizes =
     means 0 "Byte"
     ∷ means 1 "Halfword"
     ∷ means 2 "Word"
-    ∷ means 3 "Doubleword"
     ∷ []
 
--- SSE, where ISV is 1
+-- SSE, where ISV is 1 and the instruction loads
 abbrev pub extensions : List Entry
 extensions =
     means 0 "Sign-extension not required"
@@ -243,7 +203,6 @@ extensions =
 abbrev pub widths : List Entry
 widths =
     means 0 "Instruction loads/stores a 32-bit wide register"
-    ∷ means 1 "Instruction loads/stores a 64-bit wide register"
     ∷ []
 
 -- AR, where ISV is 1
@@ -260,11 +219,11 @@ maintenance =
     ∷ means 1 "From a cache maintenance or address translation instruction"
     ∷ []
 
--- WnR
+-- WnR, where CM is 0
 abbrev pub accesses : List Entry
 accesses =
     means 0 "Read from a memory location"
-    ∷ means 1 "Write to a memory location, or CM is 1"
+    ∷ means 1 "Write to a memory location"
     ∷ []
 
 -- ISV of a Software Step
@@ -281,21 +240,14 @@ exclusives =
     ∷ means 1 "A Load-Exclusive instruction was stepped"
     ∷ []
 
--- AET
+-- AET, where DFSC is 0x11
 abbrev pub asynchronousTypes : List Entry
 asynchronousTypes =
-    means 0 "Uncontainable (UC), where DFSC is 0x11"
+    means 0 "Uncontainable (UC)"
     ∷ means 1 "Unrecoverable state (UEU)"
     ∷ means 2 "Restartable state (UEO)"
     ∷ means 3 "Recoverable state (UER)"
     ∷ means 6 "Corrected (CE)"
-    ∷ []
-
--- Direction of an MSR, MRS or System instruction
-abbrev pub systemDirections : List Entry
-systemDirections =
-    means 0 "Write access, including MSR instructions"
-    ∷ means 1 "Read access, including MRS instructions"
     ∷ []
 
 -- TA

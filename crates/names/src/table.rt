@@ -6,12 +6,12 @@ ghost use lib.ListN.{getD, take, drop};
 ghost use Rattle.text.specs.Append.{Appends};
 ghost use Rattle.names.specs.Table.{texts, lists, together};
 
-const LISTS: usize = 40;
+const LISTS: usize = 39;
 
 // The texts, one after the other: the labels, and then each list of meanings by the value.
-const BYTES: [u8; 8545] = *b"\
+const BYTES: [u8; 9643] = *b"\
     ECILCVCONDTIOpc2Opc1CRnRtCRmDirectionRt2imm8RnOffsetAMimm16CommentCCKNOWNPASSSETFnVEAS1PTWIFSCISVSASSSESRTSFARCMWnRDFS\
-    CEXAETOp0Op2Op1TAcoproc0:FnV\
+    CEXAETTAcoproc0:FnV\
     : Unknown reason\
     : Trapped WFI or WFE instruction execution\
     : Trapped MCR or MRC access with coproc 0b1111\
@@ -25,12 +25,8 @@ const BYTES: [u8; 8545] = *b"\
     : SVC instruction execution in AArch32 state\
     : HVC instruction execution in AArch32 state\
     : SMC instruction execution in AArch32 state\
-    : SVC instruction execution in AArch64 state\
-    : HVC instruction execution in AArch64 state\
-    : SMC instruction execution in AArch64 state\
-    : Trapped MSR, MRS or System instruction execution in AArch64 state\
     : Instruction Abort from a lower Exception level\
-    : PC alignment fault exception, IL of HSR is UNKNOWN\
+    : PC alignment fault exception\
     : Data Abort from a lower Exception level\
     : SError interrupt\
     : Breakpoint exception from a lower Exception level\
@@ -39,7 +35,7 @@ const BYTES: [u8; 8545] = *b"\
     : BKPT instruction execution in AArch32 state\
     : Vector Catch exception from AArch32 state\
     : 16-bit instruction trapped\
-    : 32-bit instruction trapped, or an exception that has this value\
+    : 32-bit instruction trapped\
     : The COND field is not valid\
     : The COND field is valid\
     : EQ\
@@ -73,6 +69,22 @@ const BYTES: [u8; 8545] = *b"\
     : UNKNOWN\
     : UNKNOWN\
     : UNKNOWN\
+    : UNKNOWN\
+    : UNKNOWN\
+    : UNKNOWN\
+    : UNKNOWN\
+    : UNKNOWN\
+    : UNKNOWN\
+    : UNKNOWN\
+    : UNKNOWN\
+    : UNKNOWN\
+    : UNKNOWN\
+    : UNKNOWN\
+    : UNKNOWN\
+    : UNKNOWN\
+    : UNKNOWN\
+    : UNKNOWN\
+    : UNKNOWN\
     : WFI trapped\
     : WFE trapped\
     : Write to System register space, MCR instruction\
@@ -85,13 +97,13 @@ const BYTES: [u8; 8545] = *b"\
     : Immediate post-indexed\
     : Immediate offset\
     : Immediate pre-indexed\
-    : Literal unindexed, Rn is UNKNOWN\
-    : Literal offset, Rn is UNKNOWN\
+    : Literal unindexed\
+    : Literal offset\
     : Write to memory, STC instruction\
     : Read from memory, LDC instruction\
     : The instruction was unconditional, or passed its condition code check\
     : The instruction was conditional, and might have failed its condition code check\
-    : Recoverable state (UER), where the code is 0x10 and the board has RAS\
+    : Recoverable state (UER), where the board has RAS\
     : Uncontainable (UC)\
     : Restartable state (UEO)\
     : FAR is valid\
@@ -115,14 +127,12 @@ const BYTES: [u8; 8545] = *b"\
     : Permission fault, level 2\
     : Permission fault, level 3\
     : Synchronous External abort, not on translation table walk or hardware update of translation table\
-    : SError interrupt, of which CM and WnR say nothing\
     : Synchronous External abort on translation table walk or hardware update of translation table, level -1\
     : Synchronous External abort on translation table walk or hardware update of translation table, level 0\
     : Synchronous External abort on translation table walk or hardware update of translation table, level 1\
     : Synchronous External abort on translation table walk or hardware update of translation table, level 2\
     : Synchronous External abort on translation table walk or hardware update of translation table, level 3\
     : Synchronous parity or ECC error on memory access, not on translation table walk\
-    : SError interrupt from a parity or ECC error on memory access, of which CM and WnR say nothing\
     : Synchronous parity or ECC error on memory access on translation table walk or hardware update of translation table, level -1\
     : Synchronous parity or ECC error on memory access on translation table walk or hardware update of translation table, level 0\
     : Synchronous parity or ECC error on memory access on translation table walk or hardware update of translation table, level 1\
@@ -133,38 +143,50 @@ const BYTES: [u8; 8545] = *b"\
     : Address size fault, level -1\
     : Translation fault, level -1\
     : TLB conflict abort\
-    : Unsupported atomic hardware update fault, WnR of a Data Abort is UNKNOWN\
+    : Unsupported atomic hardware update fault\
     : IMPLEMENTATION DEFINED fault (Lockdown)\
-    : IMPLEMENTATION DEFINED fault (Unsupported Exclusive or Atomic access), WnR of ESR is UNKNOWN\
+    : IMPLEMENTATION DEFINED fault (Unsupported Exclusive or Atomic access)\
     : No valid instruction syndrome\
     : ISS[23:14] hold a valid instruction syndrome\
     : Byte\
     : Halfword\
     : Word\
-    : Doubleword\
     : Sign-extension not required\
     : Data item must be sign-extended\
     : Instruction loads/stores a 32-bit wide register\
-    : Instruction loads/stores a 64-bit wide register\
     : Instruction did not have acquire/release semantics\
     : Instruction did have acquire/release semantics\
     : Not from a cache maintenance or address translation instruction\
     : From a cache maintenance or address translation instruction\
     : Read from a memory location\
-    : Write to a memory location, or CM is 1\
+    : Write to a memory location\
     : EX bit is RES0\
     : EX bit is valid\
     : An instruction other than a Load-Exclusive instruction was stepped\
     : A Load-Exclusive instruction was stepped\
-    : Uncontainable (UC), where DFSC is 0x11\
+    : Uncontainable (UC)\
     : Unrecoverable state (UEU)\
     : Restartable state (UEO)\
     : Recoverable state (UER)\
     : Corrected (CE)\
     : Uncategorized error, where the board has RAS\
     : Asynchronous SError interrupt\
-    : Write access, including MSR instructions\
-    : Read access, including MRS instructions\
+    : Unknown reason\
+    : Trapped WFI or WFE instruction execution\
+    : Trapped MCR or MRC access with coproc 0b1111\
+    : Trapped MCRR or MRRC access with coproc 0b1111\
+    : Trapped MCR or MRC access with coproc 0b1110\
+    : Trapped LDC or STC access\
+    : Access to Advanced SIMD or floating-point functionality trapped by a HCPTR.{TASE, TCP10} control\
+    : Trapped VMRS access, from ID group trap\
+    : Trapped MRRC access with coproc 0b1110\
+    : Illegal exception return to AArch32 state\
+    : Exception on SVC instruction execution in AArch32 state routed to EL2\
+    : HVC instruction execution in AArch32 state\
+    : Trapped execution of SMC instruction in AArch32 state\
+    : Prefetch Abort from a lower Exception level\
+    : PC alignment fault exception\
+    : Data Abort from a lower Exception level\
     : Exception was not caused by trapped use of Advanced SIMD functionality\
     : Exception was caused by trapped use of Advanced SIMD functionality\
     : Uncontainable error (UC) or uncategorized, where the board has RAS\
@@ -201,24 +223,36 @@ const BYTES: [u8; 8545] = *b"\
     : Supervisor Call\
     : Prefetch Abort\
     : Data Abort\
-    : The COND field is not valid, or CCKNOWNPASS is 0\
-    : The COND field is valid\
-    : UNKNOWN, or 0 where CCKNOWNPASS is 0\
-    : UNKNOWN\
-    : UNKNOWN\
-    : UNKNOWN\
-    : UNKNOWN\
-    : UNKNOWN\
-    : UNKNOWN\
-    : UNKNOWN\
-    : UNKNOWN\
-    : UNKNOWN\
-    : UNKNOWN\
-    : UNKNOWN\
-    : UNKNOWN\
-    : UNKNOWN\
-    : UNKNOWN\
-    : UNKNOWN\
+    : Address size fault, translation table base register\
+    : Address size fault, level 1\
+    : Address size fault, level 2\
+    : Address size fault, level 3\
+    : Translation fault, level 1\
+    : Translation fault, level 2\
+    : Translation fault, level 3\
+    : Access flag fault, level 1\
+    : Access flag fault, level 2\
+    : Access flag fault, level 3\
+    : Permission fault, level 1\
+    : Permission fault, level 2\
+    : Permission fault, level 3\
+    : Synchronous External abort, not on translation table walk\
+    : SError interrupt\
+    : Synchronous External abort, on translation table walk, level 1\
+    : Synchronous External abort, on translation table walk, level 2\
+    : Synchronous External abort, on translation table walk, level 3\
+    : Synchronous parity or ECC error on memory access, not on translation table walk\
+    : SError interrupt from a parity or ECC error on memory access\
+    : Synchronous parity or ECC error on memory access on translation table walk, level 1\
+    : Synchronous parity or ECC error on memory access on translation table walk, level 2\
+    : Synchronous parity or ECC error on memory access on translation table walk, level 3\
+    : Alignment fault\
+    : Debug exception\
+    : TLB conflict abort\
+    : IMPLEMENTATION DEFINED fault (Lockdown)\
+    : IMPLEMENTATION DEFINED fault (Unsupported Exclusive access)\
+    : HIFAR is valid\
+    : HIFAR is not valid, and holds an UNKNOWN value\
     : R0\
     : R1\
     : R2\
@@ -252,14 +286,12 @@ const BYTES: [u8; 8545] = *b"\
     : LR_fiq\
     : register 15 of the instruction\
     : IMPLEMENTATION DEFINED classification of External aborts\
-    : HIFAR is valid, where the code is 0x10\
-    : HIFAR is not valid, and holds an UNKNOWN value\
-    : HDFAR is valid, where the code is 0x10\
+    : HDFAR is valid\
     : HDFAR is not valid, and holds an UNKNOWN value\
     ";
 
 // Where each text starts, and where the last ends.
-const STARTS: [u16; 364] = [
+const STARTS: [u16; 439] = [
     0,
     2,
     4,
@@ -296,379 +328,453 @@ const STARTS: [u16; 364] = [
     119,
     121,
     124,
-    127,
-    130,
-    133,
-    135,
-    141,
-    146,
-    162,
-    204,
-    204,
-    250,
-    298,
-    344,
-    371,
-    436,
-    477,
-    477,
-    477,
-    477,
-    517,
-    517,
-    542,
-    542,
-    542,
-    586,
-    630,
-    674,
-    674,
-    718,
-    762,
-    806,
-    873,
-    873,
-    873,
-    873,
-    873,
-    873,
-    873,
-    873,
-    921,
-    921,
-    973,
-    973,
-    1014,
-    1014,
-    1014,
-    1014,
-    1014,
-    1014,
-    1014,
-    1014,
-    1014,
-    1014,
-    1014,
-    1032,
-    1083,
-    1083,
-    1137,
-    1137,
+    126,
+    132,
+    137,
+    153,
+    195,
+    195,
+    241,
+    289,
+    335,
+    362,
+    427,
+    468,
+    468,
+    468,
+    468,
+    508,
+    508,
+    533,
+    533,
+    533,
+    577,
+    621,
+    665,
+    665,
+    665,
+    665,
+    665,
+    665,
+    665,
+    665,
+    665,
+    665,
+    665,
+    665,
+    665,
+    713,
+    713,
+    743,
+    743,
+    784,
+    784,
+    784,
+    784,
+    784,
+    784,
+    784,
+    784,
+    784,
+    784,
+    784,
+    802,
+    853,
+    853,
+    907,
+    907,
+    958,
+    958,
+    958,
+    958,
+    1003,
+    1003,
+    1046,
+    1074,
+    1102,
+    1131,
+    1156,
+    1160,
+    1164,
+    1168,
+    1172,
+    1176,
+    1180,
+    1184,
     1188,
-    1188,
-    1188,
-    1188,
-    1233,
-    1233,
-    1276,
-    1276,
-    1276,
-    1276,
-    1276,
-    1276,
-    1304,
+    1192,
+    1196,
+    1200,
+    1204,
+    1208,
+    1212,
+    1216,
+    1225,
+    1234,
+    1243,
+    1252,
+    1261,
+    1270,
+    1279,
+    1288,
+    1297,
+    1306,
+    1315,
+    1324,
+    1333,
+    1342,
+    1351,
+    1360,
     1369,
-    1398,
+    1378,
+    1387,
+    1396,
+    1405,
+    1414,
     1423,
-    1427,
-    1431,
-    1435,
-    1439,
-    1443,
-    1447,
-    1451,
-    1455,
+    1432,
+    1441,
+    1450,
     1459,
-    1463,
-    1467,
-    1471,
-    1475,
-    1479,
-    1483,
-    1492,
-    1501,
-    1510,
-    1519,
-    1528,
-    1537,
-    1546,
-    1555,
-    1564,
-    1573,
-    1582,
-    1591,
-    1600,
-    1609,
-    1618,
-    1627,
-    1640,
-    1653,
-    1702,
-    1760,
-    1810,
-    1861,
-    1878,
-    1890,
-    1911,
-    1935,
-    1953,
-    1976,
-    2010,
-    2010,
-    2041,
-    2041,
-    2075,
-    2110,
-    2181,
-    2262,
-    2333,
-    2333,
-    2353,
-    2378,
-    2392,
-    2438,
-    2511,
-    2595,
-    2674,
-    2703,
-    2732,
-    2761,
-    2789,
-    2817,
-    2845,
-    2873,
-    2901,
-    2929,
-    2957,
-    2985,
-    3012,
-    3039,
-    3066,
-    3093,
-    3192,
-    3243,
-    3243,
-    3347,
-    3450,
-    3553,
-    3656,
-    3759,
-    3840,
-    3935,
-    3935,
-    4061,
-    4186,
-    4311,
-    4436,
-    4561,
-    4561,
-    4578,
-    4595,
-    4595,
-    4595,
-    4595,
-    4595,
-    4595,
-    4595,
-    4625,
-    4625,
-    4654,
-    4654,
-    4654,
-    4654,
-    4654,
-    4674,
-    4748,
-    4748,
-    4748,
-    4789,
+    1468,
+    1477,
+    1486,
+    1495,
+    1504,
+    1517,
+    1530,
+    1579,
+    1637,
+    1687,
+    1738,
+    1755,
+    1767,
+    1788,
+    1812,
+    1830,
+    1853,
+    1872,
+    1872,
+    1888,
+    1922,
+    1957,
+    2028,
+    2109,
+    2159,
+    2159,
+    2179,
+    2204,
+    2218,
+    2264,
+    2337,
+    2421,
+    2500,
+    2529,
+    2558,
+    2587,
+    2615,
+    2643,
+    2671,
+    2699,
+    2727,
+    2755,
+    2783,
+    2811,
+    2838,
+    2865,
+    2892,
+    2919,
+    3018,
+    3018,
+    3018,
+    3122,
+    3225,
+    3328,
+    3431,
+    3534,
+    3615,
+    3615,
+    3615,
+    3741,
+    3866,
+    3991,
+    4116,
+    4241,
+    4241,
+    4258,
+    4275,
+    4275,
+    4275,
+    4275,
+    4275,
+    4275,
+    4275,
+    4305,
+    4305,
+    4334,
+    4334,
+    4334,
+    4334,
+    4334,
+    4354,
+    4396,
+    4396,
+    4396,
+    4437,
+    4508,
+    4539,
+    4585,
+    4591,
+    4601,
+    4607,
+    4636,
+    4669,
+    4718,
+    4770,
+    4818,
     4883,
-    4914,
-    4960,
-    4966,
-    4976,
-    4982,
-    4994,
-    5023,
-    5056,
-    5105,
-    5154,
-    5206,
-    5254,
-    5319,
-    5380,
-    5409,
-    5449,
-    5465,
-    5482,
-    5550,
-    5592,
-    5632,
-    5659,
-    5684,
-    5709,
-    5709,
-    5709,
-    5725,
-    5725,
-    5771,
-    5771,
-    5771,
-    5771,
-    5771,
-    5771,
-    5771,
-    5771,
-    5771,
-    5771,
-    5771,
-    5771,
-    5771,
-    5771,
-    5771,
-    5771,
-    5771,
-    5802,
-    5844,
-    5885,
-    5957,
-    6025,
-    6093,
-    6120,
-    6169,
-    6194,
-    6194,
-    6266,
-    6303,
-    6348,
-    6411,
-    6459,
-    6512,
-    6560,
-    6620,
-    6698,
-    6734,
-    6845,
-    6884,
-    6937,
-    6963,
-    6990,
-    7081,
-    7130,
-    7192,
-    7283,
-    7334,
-    7412,
-    7446,
-    7545,
-    7597,
-    7669,
-    7715,
-    7764,
-    7781,
-    7797,
-    7809,
-    7859,
-    7884,
-    7922,
-    7931,
-    7940,
-    7949,
-    7958,
-    7967,
-    7976,
-    7985,
-    7994,
-    8003,
-    8012,
-    8021,
-    8030,
-    8039,
-    8048,
-    8057,
-    8061,
-    8065,
-    8069,
+    4944,
+    4973,
+    5001,
+    5017,
+    5034,
+    5102,
+    5144,
+    5164,
+    5191,
+    5216,
+    5241,
+    5241,
+    5241,
+    5257,
+    5303,
+    5303,
+    5303,
+    5303,
+    5303,
+    5303,
+    5303,
+    5303,
+    5303,
+    5303,
+    5303,
+    5303,
+    5303,
+    5303,
+    5303,
+    5303,
+    5303,
+    5334,
+    5350,
+    5392,
+    5392,
+    5438,
+    5486,
+    5532,
+    5559,
+    5657,
+    5698,
+    5698,
+    5698,
+    5698,
+    5738,
+    5738,
+    5781,
+    5781,
+    5781,
+    5852,
+    5896,
+    5951,
+    5951,
+    5951,
+    5951,
+    5951,
+    5951,
+    5951,
+    5951,
+    5951,
+    5951,
+    5951,
+    5951,
+    5951,
+    5996,
+    5996,
+    6026,
+    6026,
+    6067,
+    6139,
+    6207,
+    6275,
+    6302,
+    6351,
+    6376,
+    6376,
+    6448,
+    6485,
+    6530,
+    6593,
+    6641,
+    6694,
+    6742,
+    6802,
+    6880,
+    6916,
+    7027,
+    7066,
+    7119,
+    7145,
+    7172,
+    7263,
+    7312,
+    7374,
+    7465,
+    7516,
+    7594,
+    7628,
+    7727,
+    7779,
+    7851,
+    7897,
+    7946,
+    7963,
+    7979,
+    7991,
+    8044,
     8073,
-    8077,
-    8081,
-    8085,
-    8089,
-    8097,
-    8105,
-    8114,
-    8123,
-    8132,
-    8140,
-    8148,
-    8156,
-    8164,
-    8172,
-    8180,
-    8188,
-    8196,
-    8204,
-    8212,
-    8220,
-    8228,
-    8236,
-    8245,
-    8254,
-    8263,
+    8102,
+    8131,
+    8131,
+    8159,
+    8187,
+    8215,
+    8215,
+    8243,
     8271,
-    8279,
-    8311,
-    8311,
-    8369,
-    8409,
+    8299,
+    8299,
+    8326,
+    8353,
+    8380,
+    8439,
     8457,
-    8497,
-    8545,
+    8457,
+    8457,
+    8457,
+    8521,
+    8585,
+    8649,
+    8730,
+    8792,
+    8792,
+    8792,
+    8792,
+    8877,
+    8962,
+    9047,
+    9047,
+    9064,
+    9081,
+    9081,
+    9081,
+    9081,
+    9081,
+    9081,
+    9081,
+    9081,
+    9081,
+    9081,
+    9081,
+    9081,
+    9081,
+    9081,
+    9101,
+    9101,
+    9101,
+    9101,
+    9142,
+    9203,
+    9219,
+    9267,
+    9271,
+    9275,
+    9279,
+    9283,
+    9287,
+    9291,
+    9295,
+    9299,
+    9307,
+    9315,
+    9324,
+    9333,
+    9342,
+    9350,
+    9358,
+    9366,
+    9374,
+    9382,
+    9390,
+    9398,
+    9406,
+    9414,
+    9422,
+    9430,
+    9438,
+    9446,
+    9455,
+    9464,
+    9473,
+    9481,
+    9489,
+    9521,
+    9521,
+    9579,
+    9595,
+    9643,
 ];
 
 // The first text of each list, the labels first, and the end of the last.
-const FIRSTS: [u16; 41] = [
+const FIRSTS: [u16; 40] = [
     0,
-    41,
-    41,
-    105,
-    107,
-    109,
-    124,
-    140,
-    142,
-    144,
-    146,
+    38,
+    38,
+    97,
+    99,
+    101,
+    116,
     148,
+    150,
+    152,
+    154,
     156,
-    158,
-    160,
-    164,
-    166,
-    168,
-    222,
-    224,
-    228,
-    230,
-    232,
+    163,
+    165,
+    167,
+    171,
+    173,
+    175,
+    229,
+    231,
     234,
     236,
-    238,
-    240,
-    242,
-    250,
-    268,
-    270,
+    237,
+    239,
+    241,
+    243,
+    245,
+    247,
+    254,
     272,
-    276,
-    302,
-    307,
     309,
-    325,
-    357,
-    359,
-    361,
-    363,
+    311,
+    315,
+    341,
+    346,
+    400,
+    402,
+    434,
+    436,
+    438,
 ];
 
 fn wide(n: u16) -> usize
@@ -679,7 +785,7 @@ fn wide(n: u16) -> usize
 
 // Appends the bytes from `start` to `end`.
 fn cut(out: &mut [u8], at: usize, start: usize, end: usize) -> usize
-    requires { ⌜ (start ≤ end) × (end ≤ 8545) ⌝ }
+    requires { ⌜ (start ≤ end) × (end ≤ 9643) ⌝ }
     ensures { λ last. ⌜ Appends (take (end - start) (drop start (together texts))) (now (out .entry)) at (now (out .exit)) last ⌝ }
 {
     let bytes = BYTES;
@@ -688,7 +794,7 @@ fn cut(out: &mut [u8], at: usize, start: usize, end: usize) -> usize
 
 // Appends text n.
 fn text_at(out: &mut [u8], at: usize, n: usize) -> usize
-    requires { ⌜ n < 363 ⌝ }
+    requires { ⌜ n < 438 ⌝ }
     ensures { λ end. ⌜ Appends (getD texts n []) (now (out .entry)) at (now (out .exit)) end ⌝ }
 {
     let start = wide(STARTS[n]);

@@ -2,4 +2,5 @@
 pub mod Entries
 pub mod Backs
 pub mod Nests
+pub mod Runs
 pub mod Twice

@@ -91,7 +91,7 @@ fn aarch64_class(class: u32) -> bool
         | (class == 0x34)
 }
 
-// Whether the class is in the build.
+// Whether the class is among those of the trap's origin.
 pub fn is_class(origin: Origin, class: u32) -> bool
     ensures { λ r. ⌜ r ≡ isClass origin class ⌝ }
 {

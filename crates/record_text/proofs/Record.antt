@@ -1,14 +1,11 @@
 -- The lines of a record's word are the lines of the record's fields, by the layout, under their names.
 -- Assumes nothing.
-use mathlib.Core.Path.{_≡_, refl, _∙_, ap, ap₂}
-use mathlib.Core.Bool.{Bool, true}
-use Prim.Native.Nat.{ℕ, zero, suc, _<_}
-use native.Mathlib.Nat.{mod-lt}
-use native.Mathlib.Omega.{arith}
-use lib.Dec.{T, eqb, lit<}
-use Rattle.bits.specs.Field.{fieldOf, bitOf, digit}
+use mathlib.Core.Path.{_≡_, _∙_, ap}
+use mathlib.Core.Bool.{true}
+use Prim.Native.Nat.{ℕ}
+use lib.Dec.{T}
 use Rattle.bits.specs.Layout.{fitting}
-use Rattle.bits.proofs.Fields.{AllBack, all-back}
+use Rattle.bits.proofs.Fields.{all-back}
 use Rattle.field_text.specs.Rows.{shapeText}
 use Rattle.field_text.proofs.Fields.{shape-said}
 use Rattle.layout.specs.Fields.{fieldsOf, recordWord}
@@ -17,35 +14,8 @@ use Rattle.record.specs.Class.{headOf}
 use Rattle.record.specs.declared.kinds.Record.{Record}
 use Rattle.record_text.specs.Names.{namesOf}
 use Rattle.record_text.specs.Text.{recordText}
-use Rattle.record_text.specs.Inner.{shapeOf, wordText}
-use Rattle.record_text.proofs.Shapes.{bitIn, rows-agree}
-
-one-bit : (x : ℕ) → x < 2 → x ≡ digit (eqb x 1)
-one-bit zero h = refl
-one-bit (suc zero) h = refl
-one-bit (suc (suc x)) h = absurd (omega arith)
-
-module _ (w : ℕ) where
-  pub own-bit : fieldOf w 24 24 ≡ digit (bitOf w 24)
-  own-bit = one-bit (fieldOf w 24 24) (omega arith)
-
-  -- bit 24 of a word that holds a record's fields
-  bit-back : (r : Record) → AllBack w (fieldsOf r) → fieldOf w 24 24 ≡ digit (bitIn r (bitOf w 24))
-  bit-back (Record.Plain r) b = own-bit
-  bit-back (Record.Wfx r) b = b .1 .1 .0
-  bit-back (Record.Mcr r) b = b .1 .1 .0
-  bit-back (Record.Mcrr r) b = b .1 .1 .0
-  bit-back (Record.Ldc r) b = b .1 .1 .0
-  bit-back (Record.Simd r) b = b .1 .1 .0
-  bit-back (Record.Call r) b = own-bit
-  bit-back (Record.Smc r) b = b .1 .1 .0
-  bit-back (Record.InstructionAbort r) b = own-bit
-  bit-back (Record.DataAbort r) b = b .1 .1 .0
-  bit-back (Record.Debug r) b = own-bit
-  bit-back (Record.Step r) b = b .1 .1 .0
-  bit-back (Record.Watchpoint r) b = own-bit
-  bit-back (Record.SError r) b = own-bit
-  bit-back (Record.System r) b = own-bit
+use Rattle.record_text.specs.Inner.{wordText}
+use Rattle.record_text.proofs.Shapes.{rows-agree}
 
 -- THE LINES OF A RECORD'S WORD are those of its fields: all of them, each at the layout's bits
 pub word-said : (r : Record) → headOf r .own ≡ true → T (fitting (fieldsOf r)) → wordText (recordWord r) ≡ recordText r
@@ -53,5 +23,5 @@ unfolding wordText recordText
 word-said r own fits =
     let w = recordWord r in
     let b = all-back 32 (fieldsOf r) (fields-ordered r) fits in
-    ap (λ (shape : ℕ). shapeText shape w) (ap₂ shapeOf (word-class r fits) (bit-back w r b))
-    ∙ shape-said w (shapeOf (headOf r .class) (digit (bitIn r (bitOf w 24)))) (namesOf r) (fieldsOf r) (rows-agree r own (bitOf w 24)) b
+    ap (λ (class : ℕ). shapeText class w) (word-class r fits)
+    ∙ shape-said w (headOf r .class) (namesOf r) (fieldsOf r) (rows-agree w r own b) b

@@ -9,6 +9,6 @@ pub fn word_lines(out: &mut [u8], at: usize, esr: Esr) -> usize
     ensures { λ end. ⌜ Appends (wordText (esr .0)) (now (out .entry)) at (now (out .exit)) end ⌝ }
 {
     let word = esr.0;
-    let shape = bits::field32(word, 31, 26) * 2 + bits::field32(word, 24, 24);
-    field_text::lines(out, at, shape as usize, word)
+    let class = bits::field32(word, 31, 26);
+    field_text::lines(out, at, class as usize, word)
 }

@@ -1,16 +1,21 @@
 -- Demand 2 for words: in each short edition a word is taken exactly when some record that the edition has writes to it, and writing that
 -- record gives the same word.
 -- Assumes nothing.
-use mathlib.Core.Path.{_≡_}
-use mathlib.Core.Bool.{true}
+use mathlib.Core.Path.{_≡_, subst}
+use mathlib.Core.Bool.{true, false}
 use mathlib.Core.Logic.{_↔_}
 use Prim.Native.Nat.{ℕ}
+use Rattle.bits.specs.Field.{bitOf}
 use Rattle.form.proofs.Forms as Forms
 use Rattle.form.proofs.Demand2 as Forms2
-use Rattle.short_layout.specs.Fields.{recordWord}
+use Rattle.layout.specs.Explained.{explained}
+use Rattle.layout.proofs.Unexplained as Layouts
+use Rattle.short_layout.specs.Fields.{fieldsOf, recordWord}
+use Rattle.short_layout.proofs.RoundTrip.{fields-ordered}
 use Rattle.short_record.specs.declared.kinds.Hsr.{Hsr}
 use Rattle.short_record.specs.declared.kinds.Record.{Record}
 use Rattle.short_rule.specs.Has.{has}
+use Rattle.short_rule.proofs.Having.{has-fits}
 use Rattle.short.specs.Form.{shortForm}
 use Rattle.short.specs.Reading.{hasWord, readOf}
 use Rattle.short.specs.Writing.{writeOf}
@@ -45,3 +50,11 @@ has-word-exactly = Forms.has-word-exactly shortForm sound
 -- two records that editions have and that make one word are one record
 pub same-record : (a b : ℕ) (r s : Record) → has a r ≡ true → has b s ≡ true → recordWord r ≡ recordWord s → r ≡ s
 same-record = Forms.same-record shortForm sound
+
+-- NO OTHER BIT: a bit of a word that is taken, in which no field of its record stands, is 0
+pub unexplained-clear : (e n : ℕ) (hsr : Hsr) (r : Record) → readOf e hsr ≡ Read.Taken r → explained n (fieldsOf r) ≡ false
+    → bitOf (hsr .0) n ≡ false
+unexplained-clear e n hsr r taken out =
+    let had = read-exactly e hsr r .0 taken in
+    subst (λ (w : ℕ). bitOf w n ≡ false) (had .1)
+    (Layouts.unexplained-clear 32 n (fieldsOf r) (fields-ordered r) (has-fits e r (had .0)) out)

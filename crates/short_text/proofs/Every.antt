@@ -9,8 +9,8 @@ use Rattle.bits.proofs.Among.{among-all}
 use Rattle.bits.proofs.Every.{below}
 use Rattle.edition.specs.Mask.{maskBelow}
 use Rattle.names.specs.Name.{meaningOf}
-use Rattle.names.specs.Class as Names
-use Rattle.names.specs.Code.{faultCodes}
+use Rattle.names.specs.Class.{shortClasses}
+use Rattle.names.specs.Code.{shortCodes}
 use Rattle.refusal_text.proofs.Why.{some}
 use Rattle.short_layout.specs.Fields.{fieldsOf}
 use Rattle.short_record.specs.Class.{classes, isClass}
@@ -18,8 +18,8 @@ use Rattle.short_record.specs.declared.kinds.Record.{Record}
 use Rattle.short_rule.specs.Code.{dataCode}
 use Rattle.short_text.specs.Names.{namesOf}
 
-pub class-named : (class : ℕ) → isClass class ≡ true → some (meaningOf Names.classes class) ≡ true
-class-named = among-all classes (λ c. some (meaningOf Names.classes c)) tt
+pub class-named : (class : ℕ) → isClass class ≡ true → some (meaningOf shortClasses class) ≡ true
+class-named = among-all classes (λ c. some (meaningOf shortClasses c)) tt
 
 pub every-named : (r : Record) → length (namesOf r) ≡ length (fieldsOf r)
 every-named (Record.Plain r) = refl
@@ -35,7 +35,7 @@ every-named (Record.DataAbort r) = refl
 
 -- no edition has the code, or it has a name
 abbrev named : ℕ → Bool
-named code = eqb (maskBelow 2 (λ e. dataCode e code)) 0 || some (meaningOf faultCodes code)
+named code = eqb (maskBelow 2 (λ e. dataCode e code)) 0 || some (meaningOf shortCodes code)
 
 pub code-named : (code : ℕ) → code < 64 → named code ≡ true
 code-named = below named (λ code. true) 64 tt

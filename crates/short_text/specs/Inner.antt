@@ -1,6 +1,6 @@
--- Inner contracts, which nobody has to believe: the shape of a short word, by its class, bit 24 and whether it is an SError interrupt's,
--- and its lines. The short form's shapes stand behind the 128 of the long form.
-use Prim.Native.Nat.{ℕ, _+_, _*_}
+-- Inner contracts, which nobody has to believe: the shape of a short word, by its class and whether it is an SError interrupt's, and
+-- its lines. The short form's shapes stand behind the 64 of the long form.
+use Prim.Native.Nat.{ℕ, _+_}
 use mathlib.Core.Bool.{Bool, true, cond, _&&_}
 use mathlib.Core.List.{List, [], _++_}
 use lib.Dec.{eqb}
@@ -18,11 +18,11 @@ use Rattle.text.specs.Ascii.{ascii}
 abbrev pub isError : ℕ → ℕ → Bool
 isError class code = eqb class 0x24 && eqb code 0x11
 
-abbrev pub shapeOf : ℕ → ℕ → ℕ → ℕ
-shapeOf class bit code = cond (isError class code) 256 (128 + class * 2) + bit
+abbrev pub shapeOf : ℕ → ℕ → ℕ
+shapeOf class code = cond (isError class code) 128 (64 + class)
 
 unfoldable pub wordText : ℕ → List ℕ
-wordText w = shapeText (shapeOf (fieldOf w 31 26) (fieldOf w 24 24) (fieldOf w 5 0)) w
+wordText w = shapeText (shapeOf (fieldOf w 31 26) (fieldOf w 5 0)) w
 
 -- what is said, with the word's fields as code reads them
 abbrev pub othersLines : ℕ → Refusal → List ℕ

@@ -13,15 +13,15 @@ use edition::Refusal;
 use short::Read;
 use short_record::Hsr;
 
-// The shape of a word by its class, bit 24 and fault code.
-fn shape(class: u32, bit: u32, code: u32) -> u32
-    requires { ⌜ (class < 64) × (bit < 2) ⌝ }
-    ensures { λ n. ⌜ n ≡ shapeOf class bit code ⌝ }
+// The shape of a word by its class and fault code.
+fn shape(class: u32, code: u32) -> u32
+    requires { ⌜ class < 64 ⌝ }
+    ensures { λ n. ⌜ n ≡ shapeOf class code ⌝ }
 {
     if (class == 0x24) & (code == 0x11) {
-        256 + bit
+        128
     } else {
-        128 + class * 2 + bit
+        64 + class
     }
 }
 
@@ -30,11 +30,7 @@ fn word_lines(out: &mut [u8], at: usize, hsr: Hsr) -> usize
     ensures { λ end. ⌜ Appends (wordText (hsr .0)) (now (out .entry)) at (now (out .exit)) end ⌝ }
 {
     let word = hsr.0 as u64;
-    let n = shape(
-        bits::field32(word, 31, 26),
-        bits::field32(word, 24, 24),
-        bits::field32(word, 5, 0),
-    );
+    let n = shape(bits::field32(word, 31, 26), bits::field32(word, 5, 0));
     field_text::lines(out, at, n as usize, word)
 }
 

@@ -1,4 +1,5 @@
--- Going on after a trap: whether the trapped instruction counts, and the state past it. Beyond the papers, by the Arm manual.
+-- Going on after a trap: the state past the trapped instruction (02, C-17); and beyond the papers, by the Arm manual, whether the
+-- instruction counts, and an instruction stepped over.
 pub mod Condition
 pub mod Step
 pub mod Over

@@ -1,7 +1,7 @@
 -- A trapped instruction stepped over: WFI, WFE, SMC and a cache maintenance operation, whose work is the monitor's own, and an instruction
 -- whose condition fails. PC of these traps is at the instruction.
 use Prim.Native.Nat.{ℕ}
-use mathlib.Core.Bool.{Bool, false, not, _||_}
+use mathlib.Core.Bool.{Bool, false, not, _&&_, _||_}
 use mathlib.Core.List.{List, [], _∷_}
 use lib.Dec.{eqb}
 use Rattle.bits.specs.Among.{among}
@@ -39,12 +39,12 @@ stepCount a = 0
 abbrev pub had : Record → Bool
 had r = not (eqb (editionsOf Origin.AArch32 r) 0)
 
--- CM of a data abort
+-- a data abort with CM 1, but on a walk (S1PTW 1), of an address translation instruction too: that is repeated once the page is mapped
 abbrev pub maintainsBy : Sort → Bool
 maintainsBy Sort.Plain = false
 maintainsBy Sort.Addressed = false
 maintainsBy (Sort.InstructionAbort r) = false
-maintainsBy (Sort.DataAbort r) = r .cm
+maintainsBy (Sort.DataAbort r) = r .cm && not (r .s1ptw)
 maintainsBy (Sort.SError r) = false
 
 abbrev pub maintains : Record → Bool

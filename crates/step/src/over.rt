@@ -45,7 +45,7 @@ pub fn had(what: Record) -> bool
     !(rule::editions(Origin::AArch32, what) == 0)
 }
 
-// Whether the record is a cache maintenance operation's: a data abort with CM 1.
+// Whether the record is a cache maintenance operation's: a data abort with CM 1, and not on a walk, after which it is repeated.
 fn maintains(what: Record) -> bool
     ensures { λ r. ⌜ r ≡ maintains what ⌝ }
 {
@@ -53,7 +53,7 @@ fn maintains(what: Record) -> bool
         Sort::Plain => false,
         Sort::Addressed => false,
         Sort::InstructionAbort(_) => false,
-        Sort::DataAbort(abort) => abort.cm,
+        Sort::DataAbort(abort) => abort.cm & !abort.s1ptw,
         Sort::SError(_) => false,
     }
 }

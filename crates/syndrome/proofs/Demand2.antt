@@ -1,17 +1,22 @@
 -- Demand 2 for words: in each edition a syndrome is taken exactly when some record that the edition has writes to it, and writing that
 -- record gives the same word.
 -- Assumes nothing.
-use mathlib.Core.Path.{_≡_}
-use mathlib.Core.Bool.{true}
+use mathlib.Core.Path.{_≡_, subst}
+use mathlib.Core.Bool.{true, false}
 use mathlib.Core.Logic.{_↔_}
 use Prim.Native.Nat.{ℕ}
+use Rattle.bits.specs.Field.{bitOf}
 use Rattle.form.proofs.Forms as Forms
 use Rattle.form.proofs.Demand2 as Forms2
-use Rattle.layout.specs.Fields.{recordWord}
+use Rattle.layout.specs.Explained.{explained}
+use Rattle.layout.specs.Fields.{fieldsOf, recordWord}
+use Rattle.layout.proofs.RoundTrip.{fields-ordered}
+use Rattle.layout.proofs.Unexplained as Layouts
 use Rattle.record.specs.declared.origin.Origin.{Origin}
 use Rattle.record.specs.declared.kinds.Esr.{Esr}
 use Rattle.record.specs.declared.kinds.Record.{Record}
 use Rattle.rule.specs.Has.{has}
+use Rattle.rule.proofs.Having.{has-fits}
 use Rattle.syndrome.specs.Form.{longForm}
 use Rattle.syndrome.specs.Reading.{hasWord, readOf}
 use Rattle.syndrome.specs.Writing.{writeOf}
@@ -48,3 +53,11 @@ module _ (o : Origin) where
   -- two records that editions have and that make one word are one record
   pub same-record : (a b : ℕ) (r s : Record) → has o a r ≡ true → has o b s ≡ true → recordWord r ≡ recordWord s → r ≡ s
   same-record = Forms.same-record (longForm o) (sound o)
+
+  -- NO OTHER BIT: a bit of a word that is taken, in which no field of its record stands, is 0
+  pub unexplained-clear : (e n : ℕ) (esr : Esr) (r : Record) → readOf o e esr ≡ Read.Taken r → explained n (fieldsOf r) ≡ false
+      → bitOf (esr .0) n ≡ false
+  unexplained-clear e n esr r taken out =
+      let had = read-exactly e esr r .0 taken in
+      subst (λ (w : ℕ). bitOf w n ≡ false) (had .1)
+      (Layouts.unexplained-clear 32 n (fieldsOf r) (fields-ordered r) (has-fits o e r (had .0)) out)

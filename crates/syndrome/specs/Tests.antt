@@ -18,7 +18,7 @@ use Rattle.rule.specs.Has.{recordClass, recordIl}
 abbrev pub upperClear : ℕ → Bool
 upperClear w = eqb (fieldOf w 63 32) 0
 
--- 3: the class, EC, is in the build
+-- 3: the class, EC, is among those of the trap's origin
 abbrev pub classKnown : Origin → ℕ → Bool
 classKnown o w = isClass o (fieldOf w 31 26)
 

@@ -7,9 +7,7 @@ use lib.Dec.{ltb, eqb}
 use borrow.Author.Tests.{eqb-true}
 use Rattle.iss.specs.Rule.{implies, conditionRule}
 use Rattle.record.specs.Addresses.{addressesOf}
-use Rattle.record.specs.Split.{recordAt}
 use Rattle.record.specs.declared.origin.Origin.{Origin}
-use Rattle.record.specs.declared.kinds.Addresses.{Addresses}
 use Rattle.record.specs.declared.kinds.DataAbort.{DataAbort}
 use Rattle.record.specs.declared.kinds.Esr.{Esr}
 use Rattle.rule.specs.Il.{ilRule}
@@ -17,8 +15,10 @@ use Rattle.layout_rule.specs.Rule.{conditionFrom, validSyndromeRule, extensionF
 use Rattle.address.specs.Known.{farCounts}
 use Rattle.address.specs.declared.Far.{Far}
 use Rattle.address.specs.declared.Hpfar.{Hpfar}
+use Rattle.syndrome.specs.Reading.{readOf}
+use Rattle.syndrome.specs.declared.answer.Read.{Read}
 use Rattle.trap.specs.Numbers.{numberAnswer}
-use Rattle.trap.specs.Answer.{farRight, answerOf}
+use Rattle.trap.specs.Answer.{ofTaken, farRight, answerOf}
 use Rattle.trap.proofs.Shown.{trap-refused-exactly}
 
 -- "IL must be 1 in every class"
@@ -55,14 +55,15 @@ extension-of-words r = by (r .sse) (ltb (r .sas) 2) (r .sf && eqb (r .sas) 2) (r
     by false small false wnr = refl
 
 -- "FAR's upper half is free there, so refusal 8 isn't given"
-far-free : (a : Addresses) (far : Far) → farRight Origin.AArch64 a far ≡ true
-far-free a far = by (farCounts a)
+far-free : (a : Read) (far : Far) → ofTaken (λ r. farRight Origin.AArch64 (addressesOf r) far) a ≡ true
+far-free (Read.Taken r) far = by (farCounts (addressesOf r))
   where
     by : (counts : Bool) → (not counts || true) ≡ true
     by true = refl
     by false = refl
+far-free (Read.Refused refusal) far = refl
 
 pub no-eight : (e : ℕ) (esr : Esr) (far : Far) (hpfar : Hpfar) → numberAnswer (answerOf Origin.AArch64 e esr far hpfar) ≡ 8 → ⊥
 no-eight e esr far hpfar eight =
     let fails = trap-refused-exactly Origin.AArch64 e esr far hpfar 8 .0 eight in
-    true≢false (sym (far-free (addressesOf (recordAt (esr .0))) far) ∙ fails .1 .1 .1 .1 .1 .1 .1)
+    true≢false (sym (far-free (readOf Origin.AArch64 e esr) far) ∙ fails .1 .1 .1 .1 .1 .1 .1)

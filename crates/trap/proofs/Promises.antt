@@ -1,35 +1,30 @@
 -- The answers of `read` and `read_both` carry their numbers, masks and counts.
 -- Assumes nothing.
-use mathlib.Core.Path.{_≡_, refl, _∙_, sym, ap}
+use mathlib.Core.Path.{_≡_, refl, _∙_, sym}
 use mathlib.Core.Bool.{Bool, true, false}
-use mathlib.Core.List.{[], _∷_}
+use mathlib.Core.List.{[], _∷_, _++_}
 use Prim.Native.Nat.{ℕ}
 use native.Mathlib.Omega.{arith}
-use Rattle.bits.specs.Decide.{needs, decide, relabel}
+use Rattle.bits.specs.Decide.{needs, decide}
 use Rattle.bits.proofs.Deciding.{decide-relabel, decide-zero, decide-other}
 use Rattle.edition.specs.Feature.{editions}
 use Rattle.edition.specs.Mask.{maskOf, countBelow}
-use Rattle.edition.specs.Judge.{refusalNumber}
 use Rattle.edition.specs.declared.Refusal.the-variants.{UnknownEdition, UpperHalf, UnknownClass, ShortInstruction, NoEdition, OtherEditions}
-use Rattle.form.specs.Call.{sixOnly, callTests}
-use Rattle.form.proofs.Numbers.{call-through}
+use Rattle.form.specs.Call.{sixOnly}
 use Rattle.form.proofs.Promises.{kept}
 use Rattle.record.specs.Addresses.{addressesOf}
-use Rattle.record.specs.Split.{recordAt}
 use Rattle.record.specs.declared.origin.Origin.{Origin}
 use Rattle.record.specs.declared.kinds.Esr.{Esr}
 use Rattle.record.specs.declared.kinds.Record.{Record}
 use Rattle.address.specs.declared.Far.{Far}
 use Rattle.address.specs.declared.Hpfar.{Hpfar}
-use Rattle.syndrome.specs.Tests.{readTests}
-use Rattle.syndrome.specs.Answer.{asRead}
-use Rattle.syndrome.specs.Reading.{hasWord, readOf, Reading}
+use Rattle.syndrome.specs.Reading.{hasWord, readOf, readList, Reading}
 use Rattle.syndrome.specs.declared.answer.Read.{Read}
 use Rattle.syndrome.proofs.Promises.{reads}
 use Rattle.trap_refusal.specs.Numbers.{trapNumber}
 use Rattle.trap.specs.Numbers.{numberAnswer, maskAnswer, countAnswer, numberBoth, maskBoth, countBoth}
 use Rattle.trap.specs.Trap.{trapOf}
-use Rattle.trap.specs.Answer.{hpfarRight, farRight, answerRecord, answerRead, answerOf, trapList, TrapReading}
+use Rattle.trap.specs.Answer.{ofTaken, hpfarRight, farRight, answerRecord, answerRead, answerOf, trapList, TrapReading}
 use Rattle.trap.specs.Both.{bothFrom, bothOf, BothReading}
 use Rattle.trap_refusal.specs.declared.TrapRefusal.{TrapRefusal}
 use Rattle.trap.specs.declared.Answer.{Answer}
@@ -75,13 +70,18 @@ module _ (o : Origin) (esr : Esr) where
         ∷ needs (farRight o (addressesOf r) far) (Answer.Refused TrapRefusal.Far) ∷ [])
         (Answer.Shown (trapOf r far hpfar))
 
+    -- a syndrome that is taken fails none of its tests, and the registers' follow; one that is refused fails one, and the registers' pass
     answer-number : numberAnswer (answerOf o e esr far hpfar) ≡ decide (trapList o e esr far hpfar) 0
-    unfolding answerOf readOf
-    answer-number =
-        call-through (λ a. numberAnswer (answerRead o e (asRead a) far hpfar)) editions (λ x. hasWord o x (esr .0)) (readTests o (esr .0))
-        e (recordAt (esr .0))
-        ∙ ap (decide (relabel refusalNumber (callTests editions (λ x. hasWord o x (esr .0)) (readTests o (esr .0)) e)))
-        (record-number (recordAt (esr .0)))
+    unfolding answerOf
+    answer-number = by (readOf o e esr) (reads o e esr refl)
+      where
+        by : (a : Read) → Reading o e esr a
+            → numberAnswer (answerRead o e a far hpfar)
+            ≡ decide (readList o e esr
+            ++ (needs (ofTaken (λ r. hpfarRight e (addressesOf r) hpfar) a) 7 ∷ needs (ofTaken (λ r. farRight o (addressesOf r) far) a) 8
+            ∷ [])) 0
+        by (Read.Taken r) said = record-number r ∙ sym (decide-zero (readList o e esr) _ tt (sym (said .number)))
+        by (Read.Refused f) said = said .number
 
     pub shows : {a : Answer} → a ≡ answerOf o e esr far hpfar → TrapReading o e esr far hpfar a
     shows same = kept same record { answer = refl; number = answer-number; mask = answer-names .0; count = answer-names .1 }

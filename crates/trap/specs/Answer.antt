@@ -1,7 +1,7 @@
 -- Reading a whole trap (01, 'Numbers a call may answer'): 1 to 6 as the syndrome reader gives them, then 7, then 8, or the trap. 8 is
 -- given from AArch32 alone (02, C-23).
 use Prim.Native.Nat.{ℕ}
-use mathlib.Core.Bool.{Bool}
+use mathlib.Core.Bool.{Bool, true}
 use mathlib.Core.List.{List, [], _∷_, _++_}
 use Rattle.bits.specs.Decide.{Test, needs, decide}
 use Rattle.edition.specs.Feature.{editions}
@@ -9,7 +9,6 @@ use Rattle.edition.specs.Mask.{maskOf, countBelow}
 use Rattle.form.specs.Promise.{Promise}
 use Rattle.iss.specs.Rule.{implies}
 use Rattle.record.specs.Addresses.{addressesOf}
-use Rattle.record.specs.Split.{recordAt}
 use Rattle.record.specs.declared.origin.Origin.{Origin}
 use Rattle.record.specs.declared.kinds.Addresses.{Addresses}
 use Rattle.record.specs.declared.kinds.Esr.{Esr}
@@ -28,6 +27,11 @@ use Rattle.trap.specs.declared.Answer.{Answer}
 -- 7: no bit outside HPFAR's field is set, where HPFAR counts
 abbrev pub hpfarRight : ℕ → Addresses → Hpfar → Bool
 hpfarRight e a hpfar = implies (hpfarCounts a) (hpfarRule e hpfar)
+
+-- a test of the record that is taken: where the syndrome is refused, nothing is left to fail
+abbrev pub ofTaken : (Record → Bool) → Read → Bool
+ofTaken test (Read.Taken r) = test r
+ofTaken test (Read.Refused refusal) = true
 
 module _ (o : Origin) where
   -- 8: bits 63:32 of FAR are zero, where FAR counts and the trap came from AArch32
@@ -50,11 +54,13 @@ module _ (o : Origin) where
   unfoldable pub answerOf : ℕ → Esr → Far → Hpfar → Answer
   answerOf e esr far hpfar = answerRead e (readOf o e esr) far hpfar
 
-  -- the tests, each with its number: the syndrome's, then those of the registers that count by the record at its bits
+  -- the tests, each with its number: the syndrome's, then those of the registers that count in the record that is taken
   abbrev pub trapList : ℕ → Esr → Far → Hpfar → List (Test ℕ)
   trapList e esr far hpfar =
       readList o e esr
-      ++ (needs (hpfarRight e (addressesOf (recordAt (esr .0))) hpfar) 7 ∷ needs (farRight (addressesOf (recordAt (esr .0))) far) 8 ∷ [])
+      ++ (needs (ofTaken (λ r. hpfarRight e (addressesOf r) hpfar) (readOf o e esr)) 7
+      ∷ needs (ofTaken (λ r. farRight (addressesOf r) far) (readOf o e esr)) 8
+      ∷ [])
 
   -- THE PROMISE of reading a trap: the answer; its number, that of the first test that fails; and with 6 alone the mask of the editions
   -- that have the word, and how many they are

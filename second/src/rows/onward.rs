@@ -112,7 +112,7 @@ fn conditions() -> Vec<Call> {
 }
 
 /// Each class with a condition that passes and one that fails; every IT; PC at both ends;
-/// status words; the order of the tests.
+/// status words; the order of the tests; data aborts by CM and S1PTW.
 fn steps() -> Vec<(State, Record)> {
     let mut questions = Vec::new();
     let had = [wfi(), mrc(), mrrc(), maintenance(), record(&[7, 1, 1, 0xe, 1])];
@@ -143,6 +143,14 @@ fn steps() -> Vec<(State, Record)> {
     for record in wrong.into_iter().chain([mrc(), with(&mrc(), "COND", 0), wfi()]) {
         for status in [0x10, 0x16, 0x0100_0010, 0x0040_0010] {
             questions.push((plain_state(status), record.clone()));
+        }
+    }
+    // The last code is none of a walk.
+    for code in [0x00, 0x05, 0x0f, 0x29, 0x10] {
+        for record in sweep(&with(&maintenance(), "code", code), "CM S1PTW") {
+            for status in [0x10, 0x16] {
+                questions.push((plain_state(status), record.clone()));
+            }
         }
     }
     questions

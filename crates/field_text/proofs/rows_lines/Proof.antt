@@ -17,8 +17,8 @@ use Rattle.field_text.proofs.rows_lines.Tie as tie
 abbrev Inv-loop : tie.InvT-loop
 Inv-loop out₀ at word first n end₀ i₀ out end i =
     (i ≤ n) × (length out ≡ length out₀)
-    × ((all : List ℕ) (last : ℕ) → Appends (rowsText word (rowsFrom (first + i) (n - i))) out end all last
-    → Appends (rowsText word (rowsFrom first n)) out₀ at all last)
+    × ((all : List ℕ) (last : ℕ) → Appends (rowsText word (rowsFrom word (first + i) (n - i))) out end all last
+    → Appends (rowsText word (rowsFrom word first n)) out₀ at all last)
 
 abbrev μ-loop : tie.MeasureT-loop
 μ-loop out₀ at word first n end₀ i₀ out end i = n - i

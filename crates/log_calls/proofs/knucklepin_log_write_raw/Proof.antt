@@ -22,8 +22,8 @@ told l before after p number size =
       buffer = p .buffer ∙ ap (λ (x : Written). bufferAfter x (logOf (entriesFrom l)) before) (p .answer);
     }
 
-write-requires : tie.Need-write-requires
-write-requires c κs = search needs
+write-raw-requires : tie.Need-write-raw-requires
+write-raw-requires c κs = search needs
 
 length-in-requires : tie.Need-length-in-requires
 length-in-requires c κs = search needs
@@ -35,8 +35,8 @@ same-length : tie.Need-same-length
 same-length c = search needs
 
 returns : tie.Need-returns
-returns c = told _ _ _ (c .before .before .before .before .write .ensures) (c .number-of .ensures) (c .before .length-in .ensures)
+returns c = told _ _ _ (c .before .before .before .before .write-raw .ensures) (c .number-of .ensures) (c .before .length-in .ensures)
 
 pub knucklepin-log-write-raw-spec : {M : Type 1} → statement M
 knucklepin-log-write-raw-spec =
-    tie.close (tie.spec write-requires length-in-requires number-of-requires same-length returns)
+    tie.close (tie.spec write-raw-requires length-in-requires number-of-requires same-length returns)

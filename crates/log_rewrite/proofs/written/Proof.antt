@@ -63,60 +63,60 @@ injections-requires c κs = search needs
 bytes-requires : tie.Need-bytes-requires
 bytes-requires c κs = search needs
 
-sub-write : tie.Need-sub-write
-sub-write c = search needs
+sub-write-raw : tie.Need-sub-write-raw
+sub-write-raw c = search needs
 
-part-write-start : tie.Need-part-write-start
-part-write-start c = search needs
+part-write-raw-start : tie.Need-part-write-raw-start
+part-write-raw-start c = search needs
 
-part-write-end : tie.Need-part-write-end
-part-write-end c = omega (
+part-write-raw-end : tie.Need-part-write-raw-end
+part-write-raw-end c = omega (
   arith,
   few (c .before .before .before .before .before .before .before .before .before .before .before .before
       .before .before .before),
 )
 
-sub-write-2 : tie.Need-sub-write-2
-sub-write-2 c = search needs
+sub-write-raw-2 : tie.Need-sub-write-raw-2
+sub-write-raw-2 c = search needs
 
-part-write-start-2 : tie.Need-part-write-start-2
-part-write-start-2 c = search needs
+part-write-raw-start-2 : tie.Need-part-write-raw-start-2
+part-write-raw-start-2 c = search needs
 
-part-write-end-2 : tie.Need-part-write-end-2
-part-write-end-2 c = omega (
+part-write-raw-end-2 : tie.Need-part-write-raw-end-2
+part-write-raw-end-2 c = omega (
   arith,
   few (c .before .before .before .before .before .before .before .before .before .before .before .before
       .before .before .before .before .before),
 )
 
-sub-write-3 : tie.Need-sub-write-3
-sub-write-3 c = search needs
+sub-write-raw-3 : tie.Need-sub-write-raw-3
+sub-write-raw-3 c = search needs
 
-part-write-start-3 : tie.Need-part-write-start-3
-part-write-start-3 c = search needs
+part-write-raw-start-3 : tie.Need-part-write-raw-start-3
+part-write-raw-start-3 c = search needs
 
-part-write-end-3 : tie.Need-part-write-end-3
-part-write-end-3 c = omega (
+part-write-raw-end-3 : tie.Need-part-write-raw-end-3
+part-write-raw-end-3 c = omega (
   arith,
   few (c .before .before .before .before .before .before .before .before .before .before .before .before
       .before .before .before .before .before .before .before),
 )
 
-sub-write-4 : tie.Need-sub-write-4
-sub-write-4 c = search needs
+sub-write-raw-4 : tie.Need-sub-write-raw-4
+sub-write-raw-4 c = search needs
 
-part-write-start-4 : tie.Need-part-write-start-4
-part-write-start-4 c = search needs
+part-write-raw-start-4 : tie.Need-part-write-raw-start-4
+part-write-raw-start-4 c = search needs
 
-part-write-end-4 : tie.Need-part-write-end-4
-part-write-end-4 c =
+part-write-raw-end-4 : tie.Need-part-write-raw-end-4
+part-write-raw-end-4 c =
     let counted = c .before .before .before .before .before .before .before .before .before .before .before .before .before .before .before
     .before .before .before .before .before in
     let start = counted .before .before .before .before in
     omega (arith, last counted, few-injections (now (start .args .log)) (start .pre))
 
-write-requires : tie.Need-write-requires
-write-requires c κs = search needs
+write-raw-requires : tie.Need-write-raw-requires
+write-raw-requires c κs = search needs
 
 same-length : tie.Need-same-length
 same-length c = search needs
@@ -132,11 +132,11 @@ returns c =
     let counts = first .before .before in
     let start = counts .before .before .before .before in
     let s = now (start .args .log) in
-    subst (λ (l : Lists). Writing l (now (start .args .out)) (done .write .last .1 .1 .1 .1 .1 .0) (done .write .result))
+    subst (λ (l : Lists). Writing l (now (start .args .out)) (done .write-raw .last .1 .1 .1 .1 .1 .0) (done .write-raw .result))
     (lists-given s (start .pre) _ _ (traps (counts .before)) (last counts) _ _ _ _ _ (found .bytes .ensures) (fourth .injections2 .ensures)
     (omega arith)
     (first .words .ensures) (omega arith) (second .words2 .ensures) (omega arith) (third .words3 .ensures) (omega arith))
-    (done .write .ensures)
+    (done .write-raw .ensures)
 
 pub written-spec : {M : Type 1} → statement M
 written-spec =
@@ -153,18 +153,18 @@ written-spec =
     slice-aggregate-injections
     injections-requires
     bytes-requires
-    sub-write
-    part-write-start
-    part-write-end
-    sub-write-2
-    part-write-start-2
-    part-write-end-2
-    sub-write-3
-    part-write-start-3
-    part-write-end-3
-    sub-write-4
-    part-write-start-4
-    part-write-end-4
-    write-requires
+    sub-write-raw
+    part-write-raw-start
+    part-write-raw-end
+    sub-write-raw-2
+    part-write-raw-start-2
+    part-write-raw-end-2
+    sub-write-raw-3
+    part-write-raw-start-3
+    part-write-raw-end-3
+    sub-write-raw-4
+    part-write-raw-start-4
+    part-write-raw-end-4
+    write-raw-requires
     same-length
     returns)

@@ -6,15 +6,6 @@ use Rattle.record_text.proofs.word_lines.Tie as tie
 field32-requires : tie.Need-field32-requires
 field32-requires c κs = search needs
 
-mul-shape : tie.Need-mul-shape
-mul-shape c = search needs
-
-field32-requires-2 : tie.Need-field32-requires-2
-field32-requires-2 c κs = search needs
-
-add-shape : tie.Need-add-shape
-add-shape c = search needs
-
 cast-lines : tie.Need-cast-lines
 cast-lines c = search needs
 
@@ -28,18 +19,7 @@ returns : tie.Need-returns
 unfolding wordText
 returns c =
     let lines = c .before .before in
-    let bit = lines .before .before in
-    rw (bit .before .field32 .ensures, bit .field322 .ensures) at (lines .lines .ensures)
+    rw (lines .before .before .field32 .ensures) at (lines .lines .ensures)
 
 pub word-lines-spec : {M : Type 1} → statement M
-word-lines-spec =
-    tie.close
-    (tie.spec
-    field32-requires
-    mul-shape
-    field32-requires-2
-    add-shape
-    cast-lines
-    lines-requires
-    same-length
-    returns)
+word-lines-spec = tie.close (tie.spec field32-requires cast-lines lines-requires same-length returns)

@@ -12,9 +12,6 @@ field32-requires c κs = search needs
 field32-requires-2 : tie.Need-field32-requires-2
 field32-requires-2 c κs = search needs
 
-field32-requires-3 : tie.Need-field32-requires-3
-field32-requires-3 c κs = search needs
-
 shape-requires : tie.Need-shape-requires
 shape-requires c κs = search needs
 
@@ -33,8 +30,7 @@ returns c =
     let lines = c .before .before in
     let shape = lines .before .before in
     let code = shape .before in
-    let bit = code .before in
-    rw (shape .shape .ensures, bit .before .field32 .ensures, bit .field322 .ensures, code .field323 .ensures) at (lines .lines .ensures)
+    rw (shape .shape .ensures, code .before .field32 .ensures, code .field322 .ensures) at (lines .lines .ensures)
 
 pub word-lines-spec : {M : Type 1} → statement M
 word-lines-spec =
@@ -43,7 +39,6 @@ word-lines-spec =
     cast-word
     field32-requires
     field32-requires-2
-    field32-requires-3
     shape-requires
     cast-lines
     lines-requires

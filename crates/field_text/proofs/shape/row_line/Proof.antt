@@ -1,5 +1,5 @@
 use borrow.Author.Needs.{needs}
-use Rattle.field_text.specs.Rows.{rowLabels, rowHighs, rowLows, rowLists, rowAt}
+use Rattle.field_text.specs.Rows.{rowLabels, rowHighs, rowLows, rowIn}
 use Rattle.field_text.proofs.shape.row_line.Statement.{statement}
 use Rattle.field_text.proofs.shape.row_line.Tie as tie
 
@@ -21,11 +21,8 @@ array-read-wide-3 c = search needs
 wide-requires-3 : tie.Need-wide-requires-3
 wide-requires-3 c κs = search needs
 
-array-read-wide-4 : tie.Need-array-read-wide-4
-array-read-wide-4 c = search needs
-
-wide-requires-4 : tie.Need-wide-requires-4
-wide-requires-4 c κs = search needs
+list-in-requires : tie.Need-list-in-requires
+list-in-requires c κs = search needs
 
 cast-field-line : tie.Need-cast-field-line
 cast-field-line c = search needs
@@ -37,13 +34,13 @@ same-length : tie.Need-same-length
 same-length c = search needs
 
 returns : tie.Need-returns
-unfolding rowAt rowLabels rowHighs rowLows rowLists
+unfolding rowIn rowLabels rowHighs rowLows
 returns c =
     let line = c .before .before in
-    let fourth = line .before .before in
-    let third = fourth .before in
+    let list = line .before .before in
+    let third = list .before in
     let second = third .before in
-    rw (second .before .wide .ensures, second .wide2 .ensures, third .wide3 .ensures, fourth .wide4 .ensures) at (line .field-line .ensures)
+    rw (second .before .wide .ensures, second .wide2 .ensures, third .wide3 .ensures, list .list-in .ensures) at (line .field-line .ensures)
 
 pub row-line-spec : {M : Type 1} → statement M
 row-line-spec =
@@ -55,8 +52,7 @@ row-line-spec =
     wide-requires-2
     array-read-wide-3
     wide-requires-3
-    array-read-wide-4
-    wide-requires-4
+    list-in-requires
     cast-field-line
     field-line-requires
     same-length

@@ -45,7 +45,7 @@ size : (c : tie.After-wide2)
     → c .wide2 .result ≡ c .before .wide .result + length (getD lists (c .before .before .before .before .args .list) [])
 size c = rw (first c, last c) (list-size (c .before .before .before .before .args .list) (c .before .before .if1 .taken))
 
-within : (c : tie.After-wide2) → c .wide2 .result ≤ 363
+within : (c : tie.After-wide2) → c .wide2 .result ≤ 438
 within c = rw (last c) (list-within (c .before .before .before .before .args .list) (c .before .before .if1 .taken))
 
 sub-if2 : tie.Need-sub-if2

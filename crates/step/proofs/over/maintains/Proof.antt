@@ -41,8 +41,9 @@ returns-3 c = of-sort (c .before .before .before .args .what) (c .before .before
 
 returns-4 : tie.Need-returns-4
 returns-4 c =
-    let at = c .before .before .before in
-    of-sort (at .before .args .what) (at .sort .ensures) (c .before .abort .given .1)
+    let met = c .before .before .before in
+    let at = met .before .before in
+    of-sort (at .before .args .what) (at .sort .ensures) (met .abort .given .1)
 
 returns-5 : tie.Need-returns-5
 returns-5 c = of-sort (c .before .before .before .args .what) (c .before .before .sort .ensures) (c .enum-told4 .given .1)
