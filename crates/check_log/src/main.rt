@@ -3,9 +3,7 @@
 // A question is a letter and what it asks about: a log to be read, `r`, also by the reader that holds it; a log and a place in it, `l`; a
 // log to be written again into a buffer, `a`; lists to be written into a buffer, `w`. A buffer is shown whole, whatever the answer. A question
 // with a list that has no room is answered by `no row`.
-mod held;
 mod input;
-mod labelled;
 mod lines;
 
 // Room for more bytes, more injections and more words of a kind than a log may have.
@@ -27,7 +25,7 @@ fn read_question() {
     }
     let log = input::first_bytes(&space, n);
     lines::read(b"read ", log::read(log));
-    lines::read(b"held ", held::read(log));
+    lines::read(b"held ", log_reader::read_in(log));
 }
 
 fn look_question() {
@@ -40,7 +38,7 @@ fn look_question() {
         return;
     }
     let log = input::first_bytes(&space, n);
-    lines::look(held::look(log, passed, entry as usize));
+    lines::look(log_reader::look_in(log, passed, entry as usize));
 }
 
 fn again_question() {
@@ -76,7 +74,7 @@ fn write_question() {
         return;
     }
     let out = input::front(&mut buffer, room);
-    let answer = labelled::write(
+    let answer = log_rewrite::write_raw(
         input::first_bytes(&editions, e),
         input::first_words(&syndromes, s),
         input::first_words(&fars, f),
