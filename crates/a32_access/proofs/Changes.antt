@@ -9,7 +9,7 @@ use lib.ListN.{getD}
 use Rattle.signed.specs.declared.Signed.the-variants.{Plus}
 use Rattle.signed.specs.Signed.{signed}
 use Rattle.status.specs.Mode.{isMode}
-use Rattle.status.specs.Register.{numberIn}
+use Rattle.status.specs.Register.{registerNumber}
 use Rattle.a32_fields.specs.declared.kinds.Fields.{Fields}
 use Rattle.a32_access.specs.Value.{valueOf}
 use Rattle.a32_access.specs.Place.{upOf, backOf, signedBy, changeOf}
@@ -29,5 +29,5 @@ module _ (f : Fields) (size : ℕ) where
 
 -- register 13 in Supervisor mode is the state's 19
 pub supervisor-stack : (regs : List ℕ) (pc : ℕ) → valueOf regs pc 0x13 13 ≡ getD regs 19 0
-unfolding valueOf isMode numberIn
+unfolding valueOf isMode registerNumber
 supervisor-stack regs pc = refl

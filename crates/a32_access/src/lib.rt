@@ -2,11 +2,11 @@
 // base.
 mod access;
 mod place;
-mod registers;
+mod transfers;
 mod value;
 
 pub use access::Access;
 pub use access::access_in;
 pub use place::back;
-pub use registers::registers_of;
+pub use transfers::registers_of;
 pub use value::value_of;

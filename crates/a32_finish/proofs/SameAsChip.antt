@@ -23,7 +23,7 @@ use Rattle.exception.specs.State.{registerIn, withRegister}
 use Rattle.rule.specs.Has.{lawful, has}
 use Rattle.step.specs.Over.{had}
 use Rattle.step.specs.Step.{stepped}
-use Rattle.device.specs.Data.{transferred, extended}
+use Rattle.data.specs.Data.{transferred, extended}
 use Rattle.device.specs.Finish as device
 use Rattle.device.specs.declared.answer.Answer.the-variants as device-answer
 use Rattle.device.specs.declared.access.Finished.{Finished as DeviceFinished}

@@ -6,7 +6,7 @@ use mathlib.Core.List.{List, []}
 use Rattle.bits.specs.Field.{fieldOf}
 use Rattle.exception.specs.declared.state.Guest.{Guest}
 use Rattle.step.specs.Step.{stepped}
-use Rattle.device.specs.Finish.{bigEndian}
+use Rattle.data.specs.Data.{bigEndian}
 use Rattle.a32_access.specs.Transferred.{registersOf, padded}
 use Rattle.a32_access.specs.declared.access.Access.{Access}
 use Rattle.a32_transfer.specs.declared.landing.Landing.{Landing}

@@ -2,7 +2,7 @@
 ghost use mathlib.Core.Path.{_≡_};
 ghost use Rattle.a32_finish.specs.Finish.{modeOf, goneOn, loaded, stored, performed, refusing};
 ghost use Rattle.a32_finish.specs.Promise.{AccessPromise};
-ghost use Rattle.device.specs.Finish.{bigEndian};
+ghost use Rattle.data.specs.Data.{bigEndian};
 use crate::answer::Answer;
 use crate::answer::Finished;
 use crate::answer::Outcome;

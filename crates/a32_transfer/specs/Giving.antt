@@ -3,7 +3,7 @@ use Prim.Native.Nat.{ℕ, zero, suc, _+_, _*_, _%_, _^_}
 use mathlib.Core.Bool.{Bool}
 use mathlib.Core.List.{List, [], _∷_, _++_}
 use lib.ListN.{getD}
-use Rattle.device.specs.Data.{transferred}
+use Rattle.data.specs.Data.{transferred}
 use Rattle.a32_access.specs.Value.{valueOf}
 
 -- what a rule gives at 0, 1 and on, below n

@@ -8,7 +8,7 @@ use Rattle.signed.specs.Signed.{signed, sumOf}
 use Rattle.status.specs.declared.Held.{Held}
 use Rattle.status.specs.Register.{heldIn}
 use Rattle.exception.specs.State.{withRegister}
-use Rattle.device.specs.Data.{transferred, extended}
+use Rattle.data.specs.Data.{transferred, extended}
 use Rattle.a32_fields.specs.declared.kinds.Fields.{Fields}
 use Rattle.a32_access.specs.declared.access.Access.{Access}
 use Rattle.a32_access.specs.Place.{backOf}

@@ -5,7 +5,7 @@ ghost use Rattle.a32_access.specs.Transferred.{padded};
 ghost use Rattle.a32_transfer.specs.Giving.{firsts, addressAt, givenAt};
 use super::landing::transfers;
 use a32_access::value_of;
-use device::transferred;
+use data::transferred;
 use std::num::wrapping_add_u32;
 
 // The address of each transfer, in transfer order: 4 bytes after the one before it; and 0 after the last.

@@ -2,7 +2,7 @@
 use Prim.Native.Nat.{ℕ}
 use mathlib.Core.Bool.{Bool, true, false, not, _&&_, _||_}
 use lib.Dec.{leb, eqb}
-use Rattle.iss.specs.Rule.{between}
+use Rattle.bits.specs.Test.{between}
 use Rattle.record.specs.declared.kinds.Addresses.{Addresses}
 
 -- an abort's virtual address is not known when code is 0x10 and FnV is 1

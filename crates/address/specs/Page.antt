@@ -6,8 +6,8 @@ use Rattle.bits.specs.Field.{fieldOf}
 use Rattle.edition.specs.Feature.{lpa}
 use Rattle.record.specs.Origin.{fromAArch64}
 use Rattle.record.specs.declared.origin.Origin.{Origin}
-use Rattle.address.specs.declared.Far.{Far}
-use Rattle.address.specs.declared.Hpfar.{Hpfar}
+use Rattle.registers.specs.declared.Far.{Far}
+use Rattle.registers.specs.declared.Hpfar.{Hpfar}
 
 -- the page number is HPFAR 43:4 with LPA, else 39:4 (02, C-16)
 abbrev pub pageTop : ℕ → ℕ

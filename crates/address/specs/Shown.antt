@@ -5,8 +5,8 @@ use Rattle.bits.specs.Field.{fieldOf}
 use Rattle.record.specs.declared.kinds.Addresses.{Addresses}
 use Rattle.address.specs.Known.{intermediateKnown, farCounts}
 use Rattle.address.specs.Page.{pageAddress}
-use Rattle.address.specs.declared.Far.{Far}
-use Rattle.address.specs.declared.Hpfar.{Hpfar}
+use Rattle.registers.specs.declared.Far.{Far}
+use Rattle.registers.specs.declared.Hpfar.{Hpfar}
 use Rattle.address.specs.declared.VirtualAddress.{VirtualAddress}
 use Rattle.address.specs.declared.IntermediateAddress.{IntermediateAddress}
 

@@ -9,12 +9,8 @@ ghost use Rattle.address.specs.Shown.{virtualOf, abortIntermediate, inte
 use bits::field;
 use record::Addresses;
 use record::Origin;
-
-// A fault address register word: FAR_EL2.
-pub struct Far(pub u64);
-
-// A hypervisor IPA fault address register word: HPFAR_EL2.
-pub struct Hpfar(pub u64);
+use registers::Far;
+use registers::Hpfar;
 
 pub enum VirtualAddress {
     Known(u64),

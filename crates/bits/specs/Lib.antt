@@ -3,3 +3,4 @@ pub mod Layout
 pub mod Among
 pub mod Decide
 pub mod Inner
+pub mod Test

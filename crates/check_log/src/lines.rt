@@ -118,7 +118,7 @@ fn buffer(bytes: &[u8]) {
 pub fn written(answer: Written, out: &[u8]) {
     let mut line = [0u8; 80];
     let word = text::append(&mut line, 0, b"write");
-    let number = log_text::decimal_field(&mut line, word, log_writer::number_of(answer) as u64);
+    let number = log_text::decimal_field(&mut line, word, log_writer::number(answer) as u64);
     let end = log_text::decimal_field(&mut line, number, log_writer::length_in(answer) as u64);
     put(&line, end);
     buffer(out);
@@ -136,9 +136,9 @@ fn again_line(number: u32, section: u32, length: usize) {
 
 pub fn again(answer: Rewritten, out: &[u8]) {
     match answer {
-        Rewritten::Unread(read) => again_line(log::number_of(read), log::section_in(read), 0),
+        Rewritten::Unread(read) => again_line(log::number(read), log::section_in(read), 0),
         Rewritten::Written(written) => again_line(
-            log_writer::number_of(written),
+            log_writer::number(written),
             0,
             log_writer::length_in(written),
         ),

@@ -2,7 +2,7 @@
 use super::read::is_asked;
 use super::write::shown;
 use esr_calls::origin_of;
-use record::Esr;
+use registers::Esr;
 use rows::Reply;
 use rows::Row;
 

@@ -1,10 +1,10 @@
 // `both ORIGIN FIRST SECOND ESR FAR HPFAR`: trap::read_both.
 use super::trapped::refused;
 use super::trapped::with_trap;
-use address::Far;
-use address::Hpfar;
 use esr_calls::origin_of;
-use record::Esr;
+use registers::Esr;
+use registers::Far;
+use registers::Hpfar;
 use rows::Reply;
 use rows::Row;
 use rows::long;

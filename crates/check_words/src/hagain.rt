@@ -1,9 +1,9 @@
 // `hagain EDITION WORD`: short::rewrite.
 use super::hwrite::shown;
+use registers::Hsr;
 use rows::Reply;
 use rows::Row;
 use rows::word;
-use short_record::Hsr;
 
 pub fn answer(row: Row) -> Reply {
     if !rows::is_words(row, 2) {

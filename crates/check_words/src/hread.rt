@@ -1,11 +1,11 @@
 // `hread EDITION WORD`: short::read.
 use super::refusal;
+use registers::Hsr;
 use rows::Reply;
 use rows::Row;
 use rows::with;
 use rows::word;
 use short::Read;
-use short_record::Hsr;
 use short_words::words_of;
 
 pub fn shown(reply: Reply, answer: Read) -> Reply {

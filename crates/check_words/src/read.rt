@@ -1,8 +1,8 @@
 // `read ORIGIN EDITION WORD`: syndrome::read.
 use super::refusal;
 use esr_calls::origin_of;
-use record::Esr;
 use record_words::words_of;
+use registers::Esr;
 use rows::Reply;
 use rows::Row;
 use rows::with;

@@ -1,12 +1,12 @@
 // `trap ORIGIN EDITION ESR FAR HPFAR`: trap::read.
-use address::Far;
-use address::Hpfar;
 use address::IntermediateAddress;
 use address::VirtualAddress;
 use esr_calls::origin_of;
-use record::Esr;
 use record::Record;
 use record_words::words_of;
+use registers::Esr;
+use registers::Far;
+use registers::Hpfar;
 use rows::Reply;
 use rows::Row;
 use rows::long;

@@ -1,6 +1,6 @@
 // A coprocessor read or write that trapped (MCR, MRC, VMRS, MCRR, MRRC), finished for the guest.
 mod answer;
-mod registers;
+mod nzcv;
 mod transfer;
 
 pub use answer::Answer;

@@ -3,7 +3,7 @@ ghost use mathlib.Core.Path.{_≡_};
 ghost use Rattle.coprocessor.specs.Finish.{transferOf, countedOf, one, two};
 ghost use Rattle.coprocessor.specs.Promise.{TransferPromise};
 use crate::answer::Answer;
-use crate::registers::status_after;
+use crate::nzcv::status_after;
 use exception::Guest;
 use exception::register;
 use exception::with_register;

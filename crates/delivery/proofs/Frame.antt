@@ -6,7 +6,7 @@ use Prim.Native.Nat.{ℕ, _+_}
 use Rattle.bits.specs.Decide.{decide, FirstFails}
 use Rattle.bits.specs.Field.{bitOf}
 use Rattle.bits.proofs.Deciding.{decided-exactly}
-use Rattle.fault.specs.Fault.{statusWord, onCode, writeBit, domainIn, column, asynchronous, codeIn, asynchronousDfsr, statusOf, dfsrOf}
+use Rattle.fault.specs.Fault.{statusWord, onCode, writeBit, domainIn, column, asynchronousRow, codeIn, asynchronousDfsr, statusOf, dfsrOf}
 use Rattle.exception.specs.declared.state.FaultRegisters.{FaultRegisters}
 use Rattle.exception.specs.declared.state.Guest.{Guest}
 use Rattle.guest.specs.declared.injection.Access.{Access}
@@ -38,8 +38,8 @@ unfolding dfsrOf statusOf
 asynchronous-words domain ttbcr = go (bitOf ttbcr 31)
   where
     go : (b : Bool)
-        → codeIn (onCode (λ w. writeBit false + (domainIn asynchronous b domain + w))
-        (onCode (λ c. statusWord c b) (column asynchronous b)))
+        → codeIn (onCode (λ w. writeBit false + (domainIn asynchronousRow b domain + w))
+        (onCode (λ c. statusWord c b) (column asynchronousRow b)))
         ≡ cond b 0x211 0x406
     go true = refl
     go false = refl

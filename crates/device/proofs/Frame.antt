@@ -21,8 +21,9 @@ use Rattle.device.specs.declared.access.Described.{Described}
 use Rattle.device.specs.declared.access.Described.the-variants.{Access, Nothing}
 use Rattle.device.specs.declared.access.Finished.{Finished}
 use Rattle.device.specs.declared.answer.Answer.the-variants.{NoEdition, UnsoundStatus}
-use Rattle.device.specs.Data.{transferred, extended}
-use Rattle.device.specs.Finish.{describedOf, bigEndian, stored, loaded, accessed, refusing, byDescription, finished}
+use Rattle.data.specs.Data.{transferred, extended}
+use Rattle.device.specs.Finish.{describedOf, stored, loaded, accessed, refusing, byDescription, finished}
+use Rattle.data.specs.Data.{bigEndian}
 
 -- an access that is finished: PC and the status word move on, whichever way it goes
 pub access-steps : (s : Guest) (r : DataAbort) (value : ℕ) → Stepped s (accessed s r value .state) (r .il)

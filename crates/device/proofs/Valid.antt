@@ -9,7 +9,8 @@ use borrow.Author.Tests.{ltb-true, eqb-false}
 use Rattle.bits.specs.Layout.{fitting}
 use Rattle.bits.proofs.Arms.{absurd-answer}
 use Rattle.bits.proofs.Booleans.{and-left, and-right, both-left, both-right}
-use Rattle.iss.specs.Rule.{implies, abortRule, maintenanceRule}
+use Rattle.iss.specs.Rule.{abortRule, maintenanceRule}
+use Rattle.bits.specs.Test.{implies}
 use Rattle.record.specs.declared.kinds.DataAbort.{DataAbort}
 use Rattle.record.specs.declared.origin.Origin.{Origin}
 use Rattle.record.specs.declared.kinds.Record.{Record}

@@ -18,7 +18,7 @@ use Rattle.device.specs.declared.answer.Answer.the-variants.{Loaded, Sto
 use Rattle.device.specs.declared.access.Described.{Described}
 use Rattle.device.specs.declared.access.Described.the-variants.{Access, Nothing}
 use Rattle.device.specs.declared.access.Finished.{Finished}
-use Rattle.device.specs.Data.{transferred, extended}
+use Rattle.data.specs.Data.{transferred, extended}
 
 -- ---- the tests
 
@@ -46,10 +46,6 @@ accessNumbers s r =
     ∷ []
 
 -- ---- the access
-
--- E: the guest's data is big-endian
-abbrev pub bigEndian : ℕ → Bool
-bigEndian w = bitOf w 9
 
 -- a store gives the device the register's low bits, and a load puts the device's value into the register
 abbrev pub stored : Guest → DataAbort → Finished

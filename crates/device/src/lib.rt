@@ -1,11 +1,8 @@
 // A guest's load or store at an emulated device, finished from the record of its data abort.
 mod access;
 mod answer;
-mod data;
 
 pub use access::Finished;
 pub use access::finish;
 pub use answer::Answer;
 pub use answer::number;
-pub use data::extended;
-pub use data::transferred;

@@ -7,10 +7,10 @@ ghost use Rattle.syndrome.specs.Writing.{writeOf};
 ghost use Rattle.record_of_words.specs.Reading.{recordOf};
 ghost use Rattle.esr_calls.specs.Calls.{originOf, ReadWords, WrittenWords};
 use edition::Refusal;
-use record::Esr;
 use record::Origin;
 use record_of_words::record_of;
 use record_words::words_of;
+use registers::Esr;
 use syndrome::Read;
 use syndrome::Written;
 

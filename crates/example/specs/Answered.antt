@@ -1,9 +1,9 @@
 -- A TRAP ANSWERED: one that is refused leaves the guest as it was, and one that is shown goes the way of its class.
 use Prim.Native.Nat.{ℕ}
 use Rattle.record.specs.declared.origin.Origin.{Origin}
-use Rattle.record.specs.declared.kinds.Esr.{Esr}
-use Rattle.address.specs.declared.Far.{Far}
-use Rattle.address.specs.declared.Hpfar.{Hpfar}
+use Rattle.registers.specs.declared.Esr.{Esr}
+use Rattle.registers.specs.declared.Far.{Far}
+use Rattle.registers.specs.declared.Hpfar.{Hpfar}
 use Rattle.exception.specs.declared.state.Guest.{Guest}
 use Rattle.trap_refusal.specs.Numbers.{trapNumber}
 use Rattle.trap.specs.Answer.{answerOf}

@@ -6,13 +6,13 @@ ghost use Rattle.example.specs.Answered.{answered};
 mod way;
 
 use a32_access::Access;
-use address::Far;
-use address::Hpfar;
 use guest::Guest;
 use guest::Injection;
-use record::Esr;
 use record::Origin;
 use record::Record;
+use registers::Esr;
+use registers::Far;
+use registers::Hpfar;
 use way::Way;
 
 // What the monitor does next.

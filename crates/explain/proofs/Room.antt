@@ -13,7 +13,7 @@ use Rattle.edition.specs.Judge.{refusalNumber}
 use Rattle.edition.specs.declared.Refusal.{Refusal}
 use Rattle.explain_text.proofs.Room.{joined, choice-length, word-said-length, trap-said-length}
 use Rattle.field_text.proofs.Room.{shape-length}
-use Rattle.question.specs.Feed.{started, fed, finished}
+use Rattle.question.specs.Feed.{started, fed, ended}
 use Rattle.question.specs.declared.Question.{Question}
 use Rattle.question.specs.declared.State.{State}
 use Rattle.refusal_text.specs.Refusal.{refusalText}
@@ -22,7 +22,7 @@ use Rattle.refusal_text.proofs.Room.{refusal-length, why-length}
 use Rattle.short.specs.Reading as Short
 use Rattle.short.specs.declared.answer.Read as ShortRead
 use Rattle.short_reason.specs.Reason as ShortReason
-use Rattle.short_record.specs.declared.kinds.Hsr.{Hsr}
+use Rattle.registers.specs.declared.Hsr.{Hsr}
 use Rattle.short_text.specs.Inner as ShortLines
 use Rattle.short_text.specs.Said.{shortSaid}
 use Rattle.short_text.proofs.Readings as Readings
@@ -57,7 +57,7 @@ chunk-length s [] = omega arith
 chunk-length s (byte ∷ rest) = go (eqb byte (code "\n")) (chunk-length started rest) (chunk-length (fed s byte) rest)
   where
     go : (t : Bool) → length (answersIn started rest) ≤ 4096 * length rest → length (answersIn (fed s byte) rest) ≤ 4096 * length rest
-        → length (cond t (answerText (finished s) ++ answersIn started rest) (answersIn (fed s byte) rest)) ≤ 4096 * suc (length rest)
+        → length (cond t (answerText (ended s) ++ answersIn started rest) (answersIn (fed s byte) rest)) ≤ 4096 * suc (length rest)
     go true new on =
-        rw (length-append (answerText (finished s)) (answersIn started rest)) (omega (arith, answer-length (finished s)))
+        rw (length-append (answerText (ended s)) (answersIn started rest)) (omega (arith, answer-length (ended s)))
     go false new on = omega arith

@@ -12,13 +12,13 @@ ghost use Rattle.text.specs.Append.{Appends};
 ghost use Rattle.question.specs.Question.{questionOf};
 ghost use Rattle.explain.specs.Answer.{answerText};
 ghost use Rattle.explain.specs.Lines.{lineAfter, answersIn, endText, Answered};
-use address::Far;
-use address::Hpfar;
 use libc::STDIN_FILENO;
 use question::Question;
 use question::State;
-use record::Esr;
-use short_record::Hsr;
+use registers::Esr;
+use registers::Far;
+use registers::Hpfar;
+use registers::Hsr;
 
 // Appends the answer to a question.
 fn answer(out: &mut [u8], at: usize, question: Question) -> usize

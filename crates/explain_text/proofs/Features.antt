@@ -19,7 +19,7 @@ use Rattle.layout.specs.Fields.{recordWord}
 use Rattle.record.specs.Sort.{sortOf}
 use Rattle.record.specs.Split.{recordAt}
 use Rattle.record.specs.declared.origin.Origin.{Origin}
-use Rattle.record.specs.declared.kinds.Esr.{Esr}
+use Rattle.registers.specs.declared.Esr.{Esr}
 use Rattle.record.specs.declared.kinds.Record.{Record}
 use Rattle.record.specs.declared.kinds.Sort.{Sort}
 use Rattle.refusal_text.specs.Feature.{fits, askedBy}

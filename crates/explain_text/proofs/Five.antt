@@ -14,7 +14,7 @@ use Rattle.form.specs.Form as Form
 use Rattle.reason.specs.Reason.{whyOf}
 use Rattle.reason.proofs.Exact.{ruleNumbers, why-number, none-broken}
 use Rattle.record.specs.declared.origin.Origin.{Origin}
-use Rattle.record.specs.declared.kinds.Esr.{Esr}
+use Rattle.registers.specs.declared.Esr.{Esr}
 use Rattle.refusal_text.proofs.Why.{told}
 use Rattle.syndrome.specs.Answer.{readNumbers}
 use Rattle.syndrome.specs.Reading.{hasWord, readOf}

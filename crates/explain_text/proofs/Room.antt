@@ -7,8 +7,8 @@ use Prim.Native.Nat.{ℕ, _+_, _≤_}
 use native.Mathlib.Omega.{arith}
 use lib.Dec.{eqb}
 use lib.ListN.{length, length-append}
-use Rattle.address.specs.declared.Far.{Far}
-use Rattle.address.specs.declared.Hpfar.{Hpfar}
+use Rattle.registers.specs.declared.Far.{Far}
+use Rattle.registers.specs.declared.Hpfar.{Hpfar}
 use Rattle.address.specs.declared.IntermediateAddress.{IntermediateAddress}
 use Rattle.address.specs.declared.VirtualAddress.{VirtualAddress}
 use Rattle.bits.specs.Field.{fieldOf}
@@ -17,7 +17,7 @@ use Rattle.edition.specs.Judge.{refusalNumber}
 use Rattle.edition.specs.declared.Refusal.{Refusal}
 use Rattle.field_text.proofs.Room.{shape-length}
 use Rattle.reason.specs.Reason.{whyOf}
-use Rattle.record.specs.declared.kinds.Esr.{Esr}
+use Rattle.registers.specs.declared.Esr.{Esr}
 use Rattle.record.specs.declared.origin.Origin.{Origin}
 use Rattle.record_text.specs.Inner.{wordText}
 use Rattle.refusal_text.specs.Refusal.{refusalText}

@@ -5,8 +5,8 @@ use mathlib.Core.Bool.{true, false}
 use mathlib.Core.List.{List, _++_}
 use Prim.Native.Nat.{ℕ}
 use Rattle.bits.proofs.Arms.{absurd-answer}
-use Rattle.address.specs.declared.Far.{Far}
-use Rattle.address.specs.declared.Hpfar.{Hpfar}
+use Rattle.registers.specs.declared.Far.{Far}
+use Rattle.registers.specs.declared.Hpfar.{Hpfar}
 use Rattle.edition.specs.declared.Refusal.{Refusal}
 use Rattle.edition.specs.declared.Refusal.the-variants.{UnknownEdition, UpperHalf, UnknownClass, ShortInstruction, NoEdition}
 use Rattle.edition.specs.declared.Refusal.the-variants.{OtherEditions}
@@ -14,7 +14,7 @@ use Rattle.layout.specs.Fields.{recordWord}
 use Rattle.layout.proofs.RoundTrip.{record-back}
 use Rattle.record.specs.Split.{recordAt}
 use Rattle.record.specs.declared.origin.Origin.{Origin}
-use Rattle.record.specs.declared.kinds.Esr.{Esr}
+use Rattle.registers.specs.declared.Esr.{Esr}
 use Rattle.record.specs.declared.kinds.Record.{Record}
 use Rattle.record_text.specs.Text.{recordText}
 use Rattle.record_text.specs.Inner.{wordText}

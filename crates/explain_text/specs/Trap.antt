@@ -4,14 +4,14 @@
 use Prim.Native.Nat.{ℕ}
 use mathlib.Core.Bool.{cond}
 use mathlib.Core.List.{List, [], _++_}
-use Rattle.address.specs.declared.Far.{Far}
-use Rattle.address.specs.declared.Hpfar.{Hpfar}
+use Rattle.registers.specs.declared.Far.{Far}
+use Rattle.registers.specs.declared.Hpfar.{Hpfar}
 use Rattle.address.specs.declared.IntermediateAddress.{IntermediateAddress}
 use Rattle.address.specs.declared.VirtualAddress.{VirtualAddress}
 use Rattle.edition.specs.Feature.{lpa}
 use Rattle.record.specs.Split.{recordAt}
 use Rattle.record.specs.declared.origin.Origin.{Origin}
-use Rattle.record.specs.declared.kinds.Esr.{Esr}
+use Rattle.registers.specs.declared.Esr.{Esr}
 use Rattle.record_text.specs.Text.{recordText}
 use Rattle.text.specs.Ascii.{ascii}
 use Rattle.text.specs.Numeral.{hexText}

@@ -9,7 +9,7 @@ use Rattle.edition.specs.declared.Refusal.the-variants.{OtherEditions}
 use Rattle.reason.specs.Reason.{whyOf}
 use Rattle.record.specs.Split.{recordAt}
 use Rattle.record.specs.declared.origin.Origin.{Origin}
-use Rattle.record.specs.declared.kinds.Esr.{Esr}
+use Rattle.registers.specs.declared.Esr.{Esr}
 use Rattle.record_text.specs.Text.{recordText}
 use Rattle.refusal_text.specs.Refusal.{refusalText}
 use Rattle.refusal_text.specs.Why.{whyText}

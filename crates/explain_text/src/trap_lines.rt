@@ -7,10 +7,10 @@ ghost use Rattle.explain_text.specs.Inner.{refusalLines, answerLines};
 use super::address_lines::addresses;
 use super::word_lines::refused;
 use super::word_lines::taken;
-use address::Far;
-use address::Hpfar;
-use record::Esr;
 use record::Origin;
+use registers::Esr;
+use registers::Far;
+use registers::Hpfar;
 use trap::Answer;
 use trap::TrapRefusal;
 

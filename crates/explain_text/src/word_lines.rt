@@ -6,8 +6,8 @@ ghost use Rattle.record_text.specs.Inner.{wordText};
 ghost use Rattle.explain_text.specs.Word.{wordSaid};
 ghost use Rattle.explain_text.specs.Inner.{othersLines, refusedLines, readLines};
 use edition::Refusal;
-use record::Esr;
 use record::Origin;
+use registers::Esr;
 use syndrome::Read;
 
 // A word that is taken.

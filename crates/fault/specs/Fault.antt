@@ -29,8 +29,8 @@ faultRow (Permission l) = levelled l 0b01101 0b01111 0b001101 0b001110 0b001111 
 faultRow Alignment = record { short = Code 0b00001; long = Code 0b100001; domain = false }
 
 -- an asynchronous external abort, which no injection carries (02, C-19: DFSR 0x406 short or 0x211 long)
-abbrev pub asynchronous : Row
-asynchronous = record { short = Code 0b10110; long = Code 0b010001; domain = false }
+abbrev pub asynchronousRow : Row
+asynchronousRow = record { short = Code 0b10110; long = Code 0b010001; domain = false }
 
 -- TTBCR bit 31 chooses the long format
 abbrev pub isLong : ℕ → Bool
@@ -95,4 +95,4 @@ codeIn Unwritable = 0
 
 -- DFSR of a virtual abort, which is asynchronous and no write
 abbrev pub asynchronousDfsr : ℕ → ℕ → ℕ
-asynchronousDfsr domain ttbcr = codeIn (dfsrOf asynchronous false domain ttbcr)
+asynchronousDfsr domain ttbcr = codeIn (dfsrOf asynchronousRow false domain ttbcr)

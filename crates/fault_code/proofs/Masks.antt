@@ -8,7 +8,8 @@ use borrow.Author.Tests.{lt-leb, ne-eqb}
 use Rattle.edition.specs.Feature.{editions, ras}
 use Rattle.edition.specs.Mask.{maskBelow, maskOf}
 use Rattle.edition.proofs.Masks.{mask-same, mask-either}
-use Rattle.iss.specs.Rule.{between, mmuFault, isvCode}
+use Rattle.iss.specs.Rule.{mmuFault, isvCode}
+use Rattle.bits.specs.Test.{between}
 use Rattle.bits.proofs.Booleans.{either-false}
 use Rattle.fault_code.specs.Code.{dataCode, instructionCode, dataOnlyCode, isvRule}
 

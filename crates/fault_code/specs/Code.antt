@@ -4,7 +4,8 @@ use Prim.Native.Nat.{ℕ}
 use mathlib.Core.Bool.{Bool, not, _&&_, _||_}
 use lib.Dec.{eqb}
 use Rattle.edition.specs.Feature.{ras, lpa2, hafdbs}
-use Rattle.iss.specs.Rule.{between, isvCode}
+use Rattle.iss.specs.Rule.{isvCode}
+use Rattle.bits.specs.Test.{between}
 
 -- the rows of the table of fault codes
 abbrev pub everywhere : ℕ → Bool

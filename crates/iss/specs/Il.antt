@@ -3,7 +3,7 @@
 use Prim.Native.Nat.{ℕ}
 use mathlib.Core.Bool.{Bool, not, _&&_, _||_}
 use lib.Dec.{eqb}
-use Rattle.iss.specs.Rule.{between}
+use Rattle.bits.specs.Test.{between}
 
 -- of 01's trapped instructions only WFI, WFE and SVC have a 16-bit form: 0x03 to 0x08, 0x0C, 0x12 and 0x13 have none
 abbrev pub wideOnly : ℕ → Bool

@@ -3,12 +3,7 @@
 use Prim.Native.Nat.{ℕ}
 use mathlib.Core.Bool.{Bool, not, _&&_, _||_}
 use lib.Dec.{leb, ltb, eqb}
-
-abbrev pub implies : Bool → Bool → Bool
-implies a b = not a || b
-
-abbrev pub between : ℕ → ℕ → ℕ → Bool
-between first last n = leb first n && leb n last
+use Rattle.bits.specs.Test.{implies, between}
 
 -- CV 1 with COND 1111 is refused
 abbrev pub conditionRule : Bool → ℕ → Bool

@@ -1,4 +1,4 @@
--- A line fed byte by byte and finished is the line read whole, however long it is.
+-- A line fed byte by byte and ended is the line read whole, however long it is.
 -- Assumes nothing.
 use mathlib.Core.Path.{_≡_, refl, sym, ap, _∙_}
 use mathlib.Core.Bool.{Bool, true, false, cond}
@@ -13,7 +13,7 @@ use lib.Dec.{eqb}
 use lib.ListN.{length, set, replicate}
 use lib.Seq.{sets, sets-eq}
 use Rattle.line.specs.Line.{lineOf}
-use Rattle.line.specs.Feed.{started, fed, fedAll, finished}
+use Rattle.line.specs.Feed.{started, fed, fedAll, ended}
 use Rattle.line.specs.declared.Line.{Line}
 use Rattle.line.specs.declared.State.{State}
 use Rattle.line.proofs.Steps.{wrong-length}
@@ -49,13 +49,13 @@ miscounted : (line : List ℕ) → (length line ≡ 18 → ⊥) → Dec (length 
 miscounted line n (yes h) e = n (omega (arith, ap (λ s. s .count) (fits line started (omega arith))))
 miscounted line n (no h) e = omega (arith, overfull line started (omega arith) (omega arith))
 
-pub fed-line : (line : List ℕ) → finished (fedAll started line) ≡ lineOf line
+pub fed-line : (line : List ℕ) → ended (fedAll started line) ≡ lineOf line
 fed-line line = go (eqb (length line) 18) refl
   where
-    go : (t : Bool) → eqb (length line) 18 ≡ t → finished (fedAll started line) ≡ lineOf line
+    go : (t : Bool) → eqb (length line) 18 ≡ t → ended (fedAll started line) ≡ lineOf line
     go true e =
         let n = eqb-true (length line) 18 e in
-        ap finished (fits line started (omega arith)) ∙ rw (zero-add, e) (ap lineOf (filled line n))
+        ap ended (fits line started (omega arith)) ∙ rw (zero-add, e) (ap lineOf (filled line n))
     go false e =
         let n = eqb-false (length line) 18 e in
         ap (λ t. cond t (lineOf (fedAll started line .bytes)) Line.NoLine)

@@ -16,8 +16,8 @@ fed s byte =
     cond (ltb (s .count) 18) (record { bytes = set (s .bytes) (s .count) byte; count = s .count + 1 })
     (record { bytes = s .bytes; count = 19 })
 
-abbrev pub finished : State → Line
-finished s = cond (eqb (s .count) 18) (lineOf (s .bytes)) Line.NoLine
+abbrev pub ended : State → Line
+ended s = cond (eqb (s .count) 18) (lineOf (s .bytes)) Line.NoLine
 
 -- a whole line
 abbrev pub fedAll : State → List ℕ → State

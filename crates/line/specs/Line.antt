@@ -24,8 +24,8 @@ unfoldable pub wordOf : List ℕ → Word
 wordOf digits = wordFrom 0 digits
 
 -- a word has at most 16 digits
-abbrev pub wordIn : List ℕ → Word
-wordIn digits = cond (leb (length digits) 16) (wordOf digits) Word.None
+abbrev pub digitsWord : List ℕ → Word
+digitsWord digits = cond (leb (length digits) 16) (wordOf digits) Word.None
 
 abbrev pub questionOf : Digit → Word → Line
 questionOf (Digit.Value edition) (Word.Value word) = Line.Question edition word

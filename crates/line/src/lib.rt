@@ -4,8 +4,8 @@
 ghost use mathlib.Core.Path.{_≡_};
 ghost use Prim.Native.Nat.{_≤_};
 ghost use lib.ListN.{length};
-ghost use Rattle.line.specs.Line.{wordOf, wordIn, lineOf};
-ghost use Rattle.line.specs.Feed.{started, fed, finished};
+ghost use Rattle.line.specs.Line.{wordOf, digitsWord, lineOf};
+ghost use Rattle.line.specs.Feed.{started, fed, ended};
 use text::Digit;
 
 // What a line says.
@@ -42,7 +42,7 @@ fn hex_word(digits: &[u8]) -> Word
 
 // The word of at most 16 hexadecimal digits. More are none.
 pub fn number(digits: &[u8]) -> Word
-    ensures { λ w. ⌜ w ≡ wordIn (now (digits .entry)) ⌝ }
+    ensures { λ w. ⌜ w ≡ digitsWord (now (digits .entry)) ⌝ }
 {
     if digits.len() <= 16 {
         hex_word(digits)
@@ -102,7 +102,7 @@ pub fn feed(state: State, byte: u8) -> State
 
 // What the line says that came.
 pub fn finish(state: State) -> Line
-    ensures { λ r. ⌜ r ≡ finished state ⌝ }
+    ensures { λ r. ⌜ r ≡ ended state ⌝ }
 {
     let bytes = state.bytes;
     if state.count == LENGTH {

@@ -11,7 +11,7 @@ use borrow.Author.Tests.{lt-ltb, le-leb}
 use lib.ListN.{length, drop, getD, length-drop}
 use lib.Seq.{drop-drop}
 use Rattle.log_section.specs.Section.{injectionSize, sizes, countOf, endOf, sectionOf, restAfter, countAfter, wholeAfter}
-use Rattle.log_section.specs.Log.{Address, nowhere, byteIn, wordIn, pairIn, injectionIn, injectionByte, domainOf, entriesOf, bodyAfter}
+use Rattle.log_section.specs.Log.{Address, nowhere, byteIn, bytesWord, pairIn, injectionIn, injectionByte, domainOf, entriesOf, bodyAfter}
 use Rattle.log.specs.Answer.{readOf}
 use Rattle.log_section.specs.Look.{sectionAt, movedPast, skipFrom, entryIn, entryOf, lookAt, startAfter, entryGiven}
 use Rattle.log.specs.declared.answer.Read.the-variants.{Accepted}
@@ -81,7 +81,7 @@ module _ (s : List ℕ) {gone : ℕ} (e : readOf s ≡ Accepted gone) where
   unfolding entriesOf
   given-in zero i h k = ap Entry.Edition (sym (entry-at 1 byteIn (countAfter s 0) (bodyAfter s 0) i 0 k))
   given-in (suc zero) i h k = ap (λ (w : ℕ). Entry.Syndrome (record { 0 = w }))
-      (sym (entry-at 8 wordIn (countAfter s 1) (bodyAfter s 1) i 0 k))
+      (sym (entry-at 8 bytesWord (countAfter s 1) (bodyAfter s 1) i 0 k))
   given-in (suc (suc zero)) i h k =
       ap (λ (a : Address). Entry.Address (record { 0 = a .far }) (record { 0 = a .hpfar }))
       (sym (entry-at 16 pairIn (countAfter s 2) (bodyAfter s 2) i nowhere k))

@@ -13,7 +13,7 @@ use lib.Seq.{take-at, drop-at, take-add, take-append-le, length-take-le}
 use Rattle.log_section.specs.Number.{little, number, Bytes}
 use Rattle.bits.proofs.Deciding.{all-pass}
 use Rattle.log_section.specs.Section.{injectionSize, sizes, countOf, endOf, wholeOf, afterOf, restAfter, countAfter}
-use Rattle.log_section.specs.Log.{Address, Entries, byte, word, pair, injection, byteIn, wordIn, pairIn, domainsFit, sectionBytes, entriesIn}
+use Rattle.log_section.specs.Log.{Address, Entries, byte, word, pair, injection, byteIn, bytesWord, pairIn, domainsFit, sectionBytes, entriesIn}
 use Rattle.log_section.specs.Log.{logOf, bodyAfter, injectionsOf, entriesOf, goneThrough}
 use Rattle.log.specs.Answer.{readTests, readOf}
 use Rattle.log.specs.declared.answer.Read.the-variants.{Accepted}
@@ -70,9 +70,9 @@ pair-back : (a : Address) (rest : List ℕ) → PairFits a → pairIn (pair a ++
 pair-back a rest f =
     let e : pair a ++ rest ≡ little 8 (a .far) ++ (little 8 (a .hpfar) ++ rest) = append-assoc (little 8 (a .far)) (little 8 (a .hpfar))
     rest in
-    let far : wordIn (pair a ++ rest) ≡ a .far = ap wordIn e ∙ number-back 8 (a .far) (little 8 (a .hpfar) ++ rest) (f .far) in
-    let hpfar : wordIn (drop 8 (pair a ++ rest)) ≡ a .hpfar =
-    ap (λ (s : List ℕ). wordIn (drop 8 s)) e ∙ ap wordIn
+    let far : bytesWord (pair a ++ rest) ≡ a .far = ap bytesWord e ∙ number-back 8 (a .far) (little 8 (a .hpfar) ++ rest) (f .far) in
+    let hpfar : bytesWord (drop 8 (pair a ++ rest)) ≡ a .hpfar =
+    ap (λ (s : List ℕ). bytesWord (drop 8 s)) e ∙ ap bytesWord
     (drop-at (little 8 (a .far)) (little 8 (a .hpfar) ++ rest) 8 (length-little 8 (a .far)))
     ∙ number-back 8 (a .hpfar) rest (f .hpfar) in
     rw (far, hpfar)
@@ -150,7 +150,7 @@ module _ (s : List ℕ) (b : Bytes s) where
 pub entries-agree : (s : List ℕ) {gone : ℕ} → readOf s ≡ Accepted gone → length (entriesOf s .syndromes) ≡ length (entriesOf s .addresses)
 unfolding entriesOf
 entries-agree s e =
-    entries-count 8 wordIn (countAfter s 1) (bodyAfter s 1) ∙ accepts s e .agree
+    entries-count 8 bytesWord (countAfter s 1) (bodyAfter s 1) ∙ accepts s e .agree
     ∙ sym (entries-count 16 pairIn (countAfter s 2) (bodyAfter s 2))
 
 -- and each of its domains is at most 15

@@ -18,7 +18,7 @@ pub enum Read {
 }
 
 // The answer's number in the definition.
-pub fn number_of(answer: Read) -> u32
+pub fn number(answer: Read) -> u32
     ensures { λ n. ⌜ n ≡ numberOf answer ⌝ }
 {
     match answer {

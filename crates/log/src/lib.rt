@@ -8,7 +8,7 @@ mod sections;
 
 pub use answer::Read;
 pub use answer::gone_in;
-pub use answer::number_of;
+pub use answer::number;
 pub use answer::section_in;
 pub use log_section::Entry;
 pub use log_section::Look;

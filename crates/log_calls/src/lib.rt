@@ -14,7 +14,7 @@ pub extern "C" fn knucklepin_log_read(log: &[u8], answer: &mut [u64; 2]) -> u32
 {
     let read = log_reader::read_in(log);
     *answer = [log::gone_in(read) as u64, log::section_in(read) as u64];
-    log::number_of(read)
+    log::number(read)
 }
 
 fn whole_in(section: Section) -> u64
@@ -113,5 +113,5 @@ pub extern "C" fn knucklepin_log_write_raw<'a, 'b>(
 {
     let written = log_rewrite::write_raw(editions, syndromes, fars, hpfars, injections, buffer);
     *length = log_writer::length_in(written) as u64;
-    log_writer::number_of(written)
+    log_writer::number(written)
 }

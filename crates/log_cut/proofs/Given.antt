@@ -10,7 +10,7 @@ use lib.Dec.{ltb}
 use lib.ListN.{length, drop, getD, length-drop}
 use lib.Seq.{drop-drop}
 use Rattle.log_section.specs.Section.{injectionSize, sizes, restAfter, countAfter, wholeAfter}
-use Rattle.log_section.specs.Log.{Address, nowhere, byteIn, wordIn, pairIn, injectionIn, injectionByte, domainOf, injectionsOf, bodyAfter}
+use Rattle.log_section.specs.Log.{Address, nowhere, byteIn, bytesWord, pairIn, injectionIn, injectionByte, domainOf, injectionsOf, bodyAfter}
 use Rattle.log_section.specs.Look.{entryIn, entryAt, entryGiven}
 use Rattle.log_section.specs.declared.entry.Entry.{Entry}
 use Rattle.log_section.proofs.Codec.{entries-count, entry-at}
@@ -34,7 +34,7 @@ module _ (s : List ℕ) where
   pub standing-counted : (n : ℕ) → n < 4 → (n ≡ 3 → ⊥) → standing (getD sizes n 0) (restAfter s n) ≡ wholeCount s n
   unfolding wholeEntries
   standing-counted zero h o = sym (entries-count 1 byteIn (standing 1 (restAfter s 0)) (bodyAfter s 0))
-  standing-counted (suc zero) h o = sym (entries-count 8 wordIn (standing 8 (restAfter s 1)) (bodyAfter s 1))
+  standing-counted (suc zero) h o = sym (entries-count 8 bytesWord (standing 8 (restAfter s 1)) (bodyAfter s 1))
   standing-counted (suc (suc zero)) h o = sym (entries-count 16 pairIn (standing 16 (restAfter s 2)) (bodyAfter s 2))
   standing-counted (suc (suc (suc n))) h o = absurd (o (omega arith))
 
@@ -81,7 +81,7 @@ module _ (s : List ℕ) where
       (sym (entry-at 1 byteIn (standing 1 (restAfter s 0)) (bodyAfter s 0) i 0 (rw (sym (standing-counted 0 h (λ e. omega arith))) at k)))
   read-in (suc zero) i k h =
       ap (λ (w : ℕ). Entry.Syndrome (record { 0 = w }))
-      (sym (entry-at 8 wordIn (standing 8 (restAfter s 1)) (bodyAfter s 1) i 0 (rw (sym (standing-counted 1 h (λ e. omega arith))) at k)))
+      (sym (entry-at 8 bytesWord (standing 8 (restAfter s 1)) (bodyAfter s 1) i 0 (rw (sym (standing-counted 1 h (λ e. omega arith))) at k)))
   read-in (suc (suc zero)) i k h =
       ap (λ (a : Address). Entry.Address (record { 0 = a .far }) (record { 0 = a .hpfar }))
       (sym (entry-at 16 pairIn (standing 16 (restAfter s 2)) (bodyAfter s 2) i nowhere

@@ -2,4 +2,3 @@ pub mod Rests
 pub mod Standings
 pub mod Given
 pub mod Accepted
-pub mod Room

@@ -5,7 +5,7 @@ use mathlib.Core.List.{List, []}
 use lib.Dec.{leb, ltb}
 use lib.ListN.{length, getD}
 use Rattle.log_section.specs.Section.{sizes, countOf, restAfter, wholeAfter}
-use Rattle.log_section.specs.Log.{Entries, byteIn, wordIn, pairIn, entriesIn, bodyAfter, injectionsOf}
+use Rattle.log_section.specs.Log.{Entries, byteIn, bytesWord, pairIn, entriesIn, bodyAfter, injectionsOf}
 use Rattle.log_section.specs.Look.{entryGiven}
 use Rattle.log_section.specs.declared.entry.Entry.{Entry}
 use Rattle.log_cut.specs.declared.Cut.{Cut}
@@ -20,7 +20,7 @@ unfoldable pub wholeEntries : List ℕ → Entries
 wholeEntries s =
     record {
       editions = entriesIn 1 byteIn (standing 1 (restAfter s 0)) (bodyAfter s 0);
-      syndromes = entriesIn 8 wordIn (standing 8 (restAfter s 1)) (bodyAfter s 1);
+      syndromes = entriesIn 8 bytesWord (standing 8 (restAfter s 1)) (bodyAfter s 1);
       addresses = entriesIn 16 pairIn (standing 16 (restAfter s 2)) (bodyAfter s 2);
       injections = cond (wholeAfter s 3) (injectionsOf s) [];
     }

@@ -6,11 +6,6 @@ ghost use Prim.Native.Nat.{_≤_, _<_, min};
 ghost use lib.ListN.{length, drop};
 ghost use Rattle.log_section.specs.Section.{injectionSize, countOf, wholeOf, restAfter};
 ghost use Rattle.log_cut.specs.Whole.{standing, wholeCount, wholeEntry, cutOf, cutAfter};
-
-mod cut_lines;
-
-pub use cut_lines::cut_line;
-pub use cut_lines::syndrome_line;
 use log::Entry;
 use log::Section;
 

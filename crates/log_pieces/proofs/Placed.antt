@@ -10,7 +10,7 @@ use lib.Seq.{getD-append-add}
 use Rattle.log_section.specs.Log.{Address, Entries, nowhere}
 use Rattle.log.specs.Answer.{readOf}
 use Rattle.log_cut.specs.Whole.{countIn}
-use Rattle.log_cut.specs.Line.{syndromeText}
+use Rattle.log_text.specs.Cut.{syndromeText}
 use Rattle.log_text.specs.Lines.{editionText}
 use Rattle.text.specs.Append.{Appends}
 use Rattle.log_pieces.specs.Text.{shown, seenMask, trapPiece, trapPieces, injectionPiece, entryPieces, firstText, lastText}

@@ -9,7 +9,7 @@ use Rattle.log.specs.Answer.{sectionIn, readOf}
 use Rattle.log_section.specs.Log.{Address, Entries, injectionByte, domainOf}
 use Rattle.log.specs.declared.answer.Read.{Read}
 use Rattle.log_cut.specs.Whole.{cutAfter}
-use Rattle.log_cut.proofs.Room.{syndrome-length, cut-length}
+use Rattle.log_text.proofs.CutRoom.{syndrome-length, cut-length}
 use Rattle.log_text.specs.Lines.{readText, editionText}
 use Rattle.log_text.proofs.Room.{read-length, edition-length, injection-length}
 use Rattle.text.specs.Ascii.{ascii}

@@ -8,14 +8,14 @@ use native.Mathlib.Omega.{arith}
 use borrow.Author.Tests.{eq-eqb, ne-eqb, lt-ltb}
 use lib.Dec.{eqb}
 use lib.ListN.{length}
-use Rattle.address.specs.declared.Far.{Far}
-use Rattle.address.specs.declared.Hpfar.{Hpfar}
+use Rattle.registers.specs.declared.Far.{Far}
+use Rattle.registers.specs.declared.Hpfar.{Hpfar}
 use Rattle.log_section.specs.Log.{entriesOf}
 use Rattle.log.specs.Answer.{numberOf, readOf}
 use Rattle.log_section.specs.Look.{entryGiven}
 use Rattle.log.specs.declared.answer.Read.the-variants.{Accepted, TooLong, CutShort, LeftOver, Unequal, WideDomain}
 use Rattle.log_section.specs.declared.entry.Entry.{Entry}
-use Rattle.record.specs.declared.kinds.Esr.{Esr}
+use Rattle.registers.specs.declared.Esr.{Esr}
 use Rattle.log_cut.specs.Whole.{wholeEntries, countIn, wholeCount, wholeEntry}
 use Rattle.log_cut.proofs.Accepted.{accepted-whole, few-whole}
 use Rattle.log_pieces.specs.Text.{isShown, nothing, shown}

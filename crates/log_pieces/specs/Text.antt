@@ -12,7 +12,7 @@ use Rattle.log_section.specs.Log.{Address, Entries, injectionByte, domainOf}
 use Rattle.log.specs.Answer.{numberOf, sectionIn, readOf}
 use Rattle.log.specs.declared.answer.Read.{Read}
 use Rattle.log_cut.specs.Whole.{wholeEntries, cutAfter}
-use Rattle.log_cut.specs.Line.{syndromeText, cutText}
+use Rattle.log_text.specs.Cut.{syndromeText, cutText}
 use Rattle.log_text.specs.Lines.{readText, editionText, injectionText}
 use Rattle.text.specs.Ascii.{ascii}
 use Rattle.trap_text.specs.Shown.{trapText}

@@ -13,7 +13,7 @@ use log::Entry;
 fn is_shown(log: &[u8]) -> bool
     ensures { λ yes. ⌜ yes ≡ isShown (readOf (now (log .entry))) ⌝ }
 {
-    let number = log::number_of(log_reader::read_in(log));
+    let number = log::number(log_reader::read_in(log));
     if number == 0 {
         return true;
     }

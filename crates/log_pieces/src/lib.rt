@@ -34,7 +34,7 @@ fn trap_lines(out: &mut [u8], at: usize, log: &[u8], seen: u32, explained: bool,
     let syndrome = entries::entry(log, 1, i);
     if let Entry::Syndrome(esr) = syndrome {
         if entries::count(log, 2) <= i {
-            return log_cut::syndrome_line(out, at, esr);
+            return log_text::syndrome_line(out, at, esr);
         }
         let address = entries::entry(log, 2, i);
         if let Entry::Address { far, hpfar } = address {
@@ -57,7 +57,7 @@ fn first_lines(out: &mut [u8], at: usize, answer: Read) -> usize
     ensures { λ end. ⌜ Appends (firstText answer) (now (out .entry)) at (now (out .exit)) end ⌝ }
 {
     let line = log_text::read_line(out, at, answer);
-    if log::number_of(answer) == 13 {
+    if log::number(answer) == 13 {
         return text::append(
             out,
             line,
@@ -72,11 +72,11 @@ fn last_line(out: &mut [u8], at: usize, log: &[u8]) -> usize
     ensures { λ end. ⌜ Appends (lastText (now (log .entry))) (now (out .entry)) at (now (out .exit)) end ⌝ }
 {
     let answer = log_reader::read_in(log);
-    if log::number_of(answer) != 13 {
+    if log::number(answer) != 13 {
         return at;
     }
     let section = log::section_in(answer);
-    log_cut::cut_line(out, at, section, log_cut::cut_after(log, section - 1))
+    log_text::cut_line(out, at, section, log_cut::cut_after(log, section - 1))
 }
 
 // Piece i of those after the first. Past the last there is nothing to append.

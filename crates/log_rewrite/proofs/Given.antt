@@ -12,7 +12,7 @@ use lib.ListN.{length, take, drop, getD, set, length-drop}
 use lib.Seq.{drop-drop, ext-getD, getD-take, getD-set-same, getD-set-other, length-take-le}
 use Rattle.log_section.specs.Number.{number}
 use Rattle.log_section.specs.Section.{injectionSize, sizes, endOf, restAfter, countAfter}
-use Rattle.log_section.specs.Log.{Address, nowhere, byteIn, wordIn as wordAt, pairIn, injectionIn, injectionByte, domainOf, entriesIn, entriesOf}
+use Rattle.log_section.specs.Log.{Address, nowhere, byteIn, entryWord as wordAt, pairIn, injectionIn, injectionByte, domainOf, entriesIn, entriesOf}
 use Rattle.log_section.specs.Log.{bodyAfter}
 use Rattle.log.specs.Answer.{numberOf, readOf}
 use Rattle.log_section.specs.Look.{sectionAt, startAfter}
@@ -30,7 +30,7 @@ use Rattle.log_reader.proofs.Gives.{reader-stands, reader-gives}
 use Rattle.log_writer.specs.Lists.{Lists, farsOf, hpfarsOf, listsOf}
 use Rattle.log_writer.proofs.Again.{fars-length, hpfars-length}
 use Rattle.log_rewrite.specs.Rewrite.{Taken}
-use Rattle.log_rewrite.specs.Inner.{countIn, wordIn, halfIn}
+use Rattle.log_rewrite.specs.Inner.{countIn, entryWord, halfIn}
 
 pub accepted : (a : Read) → numberOf a ≡ 0 → (gone : ℕ) × (a ≡ Accepted gone)
 accepted (Accepted gone) e = (gone, refl)
@@ -112,37 +112,37 @@ module _ (s : List ℕ) (t : Taken s) where
         (λ i below. getD-take (countAfter s n) out i 0 (omega arith) ∙ holds i (omega arith) ∙ same i (omega arith))
 
   module _ (out : List ℕ) (room : countAfter s 1 ≤ length out) where
-    pub syndromes-given : ((i : ℕ) → i < length out → getD out i 0 ≡ wordIn (lookIn s 1 i .entry) false)
+    pub syndromes-given : ((i : ℕ) → i < length out → getD out i 0 ≡ entryWord (lookIn s 1 i .entry) false)
         → take (countAfter s 1) out ≡ entriesOf s .syndromes
     unfolding entriesOf
     syndromes-given =
-        words-given 1 (lit< tt) (λ e. wordIn e false) (entriesOf s .syndromes) (entries-count 8 wordAt (countAfter s 1) (bodyAfter s 1))
-        (λ i below. ap (λ (l : Look). wordIn (l .entry) false) (reader-gives s taken 1 i (lit< tt) below)) out room
+        words-given 1 (lit< tt) (λ e. entryWord e false) (entriesOf s .syndromes) (entries-count 8 wordAt (countAfter s 1) (bodyAfter s 1))
+        (λ i below. ap (λ (l : Look). entryWord (l .entry) false) (reader-gives s taken 1 i (lit< tt) below)) out room
 
   agree : countAfter s 1 ≡ countAfter s 2
   agree = accepts s taken .agree
 
   module _ (out : List ℕ) (room : countAfter s 1 ≤ length out) where
-    pub fars-given : ((i : ℕ) → i < length out → getD out i 0 ≡ wordIn (lookIn s 2 i .entry) false)
+    pub fars-given : ((i : ℕ) → i < length out → getD out i 0 ≡ entryWord (lookIn s 2 i .entry) false)
         → take (countAfter s 1) out ≡ farsOf (entriesOf s .addresses)
     unfolding entriesOf
     fars-given holds =
         let addresses = entriesOf s .addresses in
         ap (λ (n : ℕ). take n out) agree
-        ∙ words-given 2 (lit< tt) (λ e. wordIn e false) (farsOf addresses)
+        ∙ words-given 2 (lit< tt) (λ e. entryWord e false) (farsOf addresses)
         (fars-length addresses ∙ entries-count 16 pairIn (countAfter s 2) (bodyAfter s 2))
-        (λ i below. ap (λ (l : Look). wordIn (l .entry) false) (reader-gives s taken 2 i (lit< tt) below) ∙ sym (fars-at addresses i))
+        (λ i below. ap (λ (l : Look). entryWord (l .entry) false) (reader-gives s taken 2 i (lit< tt) below) ∙ sym (fars-at addresses i))
         out (omega (arith, agree)) holds
 
-    pub hpfars-given : ((i : ℕ) → i < length out → getD out i 0 ≡ wordIn (lookIn s 2 i .entry) true)
+    pub hpfars-given : ((i : ℕ) → i < length out → getD out i 0 ≡ entryWord (lookIn s 2 i .entry) true)
         → take (countAfter s 1) out ≡ hpfarsOf (entriesOf s .addresses)
     unfolding entriesOf
     hpfars-given holds =
         let addresses = entriesOf s .addresses in
         ap (λ (n : ℕ). take n out) agree
-        ∙ words-given 2 (lit< tt) (λ e. wordIn e true) (hpfarsOf addresses)
+        ∙ words-given 2 (lit< tt) (λ e. entryWord e true) (hpfarsOf addresses)
         (hpfars-length addresses ∙ entries-count 16 pairIn (countAfter s 2) (bodyAfter s 2))
-        (λ i below. ap (λ (l : Look). wordIn (l .entry) true) (reader-gives s taken 2 i (lit< tt) below) ∙ sym (hpfars-at addresses i))
+        (λ i below. ap (λ (l : Look). entryWord (l .entry) true) (reader-gives s taken 2 i (lit< tt) below) ∙ sym (hpfars-at addresses i))
         out (omega (arith, agree)) holds
 
   -- an injection's own byte and its domain make its number again
@@ -161,9 +161,9 @@ module _ (s : List ℕ) (t : Taken s) where
   module _ (n m : ℕ) (count : n ≡ countAfter s 1) (last : m ≡ countAfter s 3) (e i x y z : List ℕ)
       (editions : e ≡ entriesIn 1 byteIn (countAfter s 0) (bodyAfter s 0))
       (injections : (k : ℕ) → k < length i → getD i k 0 ≡ halfIn (lookIn s 3 k .entry)) (room-i : 32760 ≤ length i)
-      (syndromes : (k : ℕ) → k < length x → getD x k 0 ≡ wordIn (lookIn s 1 k .entry) false) (room-x : 2730 ≤ length x)
-      (fars : (k : ℕ) → k < length y → getD y k 0 ≡ wordIn (lookIn s 2 k .entry) false) (room-y : 2730 ≤ length y)
-      (hpfars : (k : ℕ) → k < length z → getD z k 0 ≡ wordIn (lookIn s 2 k .entry) true) (room-z : 2730 ≤ length z) where
+      (syndromes : (k : ℕ) → k < length x → getD x k 0 ≡ entryWord (lookIn s 1 k .entry) false) (room-x : 2730 ≤ length x)
+      (fars : (k : ℕ) → k < length y → getD y k 0 ≡ entryWord (lookIn s 2 k .entry) false) (room-y : 2730 ≤ length y)
+      (hpfars : (k : ℕ) → k < length z → getD z k 0 ≡ entryWord (lookIn s 2 k .entry) true) (room-z : 2730 ≤ length z) where
     first-words : (out : List ℕ) → take (n - 0) out ≡ take (countAfter s 1) out
     first-words out = ap (λ (k : ℕ). take k out) (sub-zero n ∙ count)
 

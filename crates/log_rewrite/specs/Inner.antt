@@ -9,12 +9,12 @@ countIn (Section.Whole count end) = count
 countIn Section.None = 0
 
 -- a word of an entry: a syndrome, and of an address FAR first and HPFAR second
-abbrev pub wordIn : Entry → Bool → ℕ
-wordIn (Entry.Edition edition) second = 0
-wordIn (Entry.Syndrome esr) second = esr .0
-wordIn (Entry.Address far hpfar) second = cond second (hpfar .0) (far .0)
-wordIn (Entry.Injection injection domain) second = 0
-wordIn Entry.None second = 0
+abbrev pub entryWord : Entry → Bool → ℕ
+entryWord (Entry.Edition edition) second = 0
+entryWord (Entry.Syndrome esr) second = esr .0
+entryWord (Entry.Address far hpfar) second = cond second (hpfar .0) (far .0)
+entryWord (Entry.Injection injection domain) second = 0
+entryWord Entry.None second = 0
 
 -- an injection as the number of its two bytes
 abbrev pub halfIn : Entry → ℕ

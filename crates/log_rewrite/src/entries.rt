@@ -7,7 +7,7 @@ ghost use Rattle.log_section.specs.Section.{sizes, countAfter};
 ghost use Rattle.log_section.specs.Log.{byteIn, entriesIn, bodyAfter};
 ghost use Rattle.log_reader.specs.Reader.{lookIn};
 ghost use Rattle.log_rewrite.specs.Rewrite.{Taken};
-ghost use Rattle.log_rewrite.specs.Inner.{countIn, wordIn, halfIn};
+ghost use Rattle.log_rewrite.specs.Inner.{countIn, entryWord, halfIn};
 use log::Entry;
 use log::Section;
 
@@ -42,7 +42,7 @@ pub fn bytes(log: &[u8], passed: u32) -> &[u8]
 
 // A word of an entry: a syndrome, and of an address FAR first and HPFAR second.
 fn word_in(entry: Entry, second: bool) -> u64
-    ensures { λ w. ⌜ w ≡ wordIn entry second ⌝ }
+    ensures { λ w. ⌜ w ≡ entryWord entry second ⌝ }
 {
     match entry {
         Entry::Syndrome(esr) => esr.0,
@@ -57,7 +57,7 @@ fn word_in(entry: Entry, second: bool) -> u64
 }
 
 fn word_at(log: &[u8], passed: u32, second: bool, i: usize) -> u64
-    ensures { λ w. ⌜ w ≡ wordIn (lookIn (now (log .entry)) passed i .entry) second ⌝ }
+    ensures { λ w. ⌜ w ≡ entryWord (lookIn (now (log .entry)) passed i .entry) second ⌝ }
 {
     let found = log_reader::look_in(log, passed, i);
     let entry = found.entry;
@@ -66,7 +66,7 @@ fn word_at(log: &[u8], passed: u32, second: bool, i: usize) -> u64
 
 // Fills a buffer with a word of each entry of a section.
 pub fn words(log: &[u8], passed: u32, second: bool, out: &mut [u64])
-    ensures { λ _. ⌜ ((i : ℕ) → i < length (now (out .exit)) → getD (now (out .exit)) i 0 ≡ wordIn (lookIn (now (log .entry)) passed i .entry) second) ⌝ }
+    ensures { λ _. ⌜ ((i : ℕ) → i < length (now (out .exit)) → getD (now (out .exit)) i 0 ≡ entryWord (lookIn (now (log .entry)) passed i .entry) second) ⌝ }
 {
     let mut i = 0;
     while i < out.len() {

@@ -56,7 +56,7 @@ pub fn rewrite(log: &[u8], out: &mut [u8]) -> Rewritten
     ensures { λ a. ⌜ Rewriting (now (log .entry)) (now (out .entry)) (now (out .exit)) a ⌝ }
 {
     let answer = log::read(log);
-    if log::number_of(answer) != 0 {
+    if log::number(answer) != 0 {
         return Rewritten::Unread(answer);
     }
     Rewritten::Written(written(log, out))

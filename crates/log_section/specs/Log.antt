@@ -50,11 +50,11 @@ injection n = little injectionSize n
 abbrev pub byteIn : List ℕ → ℕ
 byteIn s = number (take 1 s)
 
-abbrev pub wordIn : List ℕ → ℕ
-wordIn s = number (take 8 s)
+abbrev pub bytesWord : List ℕ → ℕ
+bytesWord s = number (take 8 s)
 
 abbrev pub pairIn : List ℕ → Address
-pairIn s = record { far = wordIn s; hpfar = wordIn (drop 8 s) }
+pairIn s = record { far = bytesWord s; hpfar = bytesWord (drop 8 s) }
 
 abbrev pub injectionIn : List ℕ → ℕ
 injectionIn s = number (take injectionSize s)
@@ -91,7 +91,7 @@ unfoldable pub entriesOf : List ℕ → Entries
 entriesOf s =
     record {
       editions = entriesIn 1 byteIn (countAfter s 0) (bodyAfter s 0);
-      syndromes = entriesIn 8 wordIn (countAfter s 1) (bodyAfter s 1);
+      syndromes = entriesIn 8 bytesWord (countAfter s 1) (bodyAfter s 1);
       addresses = entriesIn 16 pairIn (countAfter s 2) (bodyAfter s 2);
       injections = injectionsOf s;
     }

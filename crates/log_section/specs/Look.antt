@@ -6,7 +6,7 @@ use mathlib.Core.List.{List}
 use lib.Dec.{leb, ltb}
 use lib.ListN.{length, drop, getD}
 use Rattle.log_section.specs.Section.{sizes, endOf, sectionOf, restAfter}
-use Rattle.log_section.specs.Log.{Entries, byteIn, wordIn, injectionIn, injectionByte, domainOf, nowhere}
+use Rattle.log_section.specs.Log.{Entries, byteIn, bytesWord, injectionIn, injectionByte, domainOf, nowhere}
 use Rattle.log_section.specs.declared.section.Section.{Section}
 use Rattle.log_section.specs.declared.entry.Place.{Place}
 use Rattle.log_section.specs.declared.entry.Entry.{Entry}
@@ -28,8 +28,8 @@ skipFrom s (suc n) p = skipFrom s n (movedPast (sectionAt s (p .passed) (p .at))
 -- the entry that some bytes begin with, by the number of sections before its own
 abbrev pub entryIn : ℕ → List ℕ → Entry
 entryIn zero s = Entry.Edition (byteIn s)
-entryIn (suc zero) s = Entry.Syndrome (record { 0 = wordIn s })
-entryIn (suc (suc zero)) s = Entry.Address (record { 0 = wordIn s }) (record { 0 = wordIn (drop 8 s) })
+entryIn (suc zero) s = Entry.Syndrome (record { 0 = bytesWord s })
+entryIn (suc (suc zero)) s = Entry.Address (record { 0 = bytesWord s }) (record { 0 = bytesWord (drop 8 s) })
 entryIn (suc (suc (suc n))) s = Entry.Injection (injectionByte (injectionIn s)) (domainOf (injectionIn s))
 
 -- the entry whose bytes stand at a place

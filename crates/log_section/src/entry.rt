@@ -14,9 +14,9 @@ use super::section::INJECTION;
 use super::section::SYNDROME;
 use super::section::Section;
 use super::section::front;
-use address::Far;
-use address::Hpfar;
-use record::Esr;
+use registers::Esr;
+use registers::Far;
+use registers::Hpfar;
 
 pub struct Place {
     pub passed: u32,

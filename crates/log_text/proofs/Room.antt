@@ -6,8 +6,8 @@ use mathlib.Core.List.{List, _++_}
 use Prim.Native.Nat.{ℕ, _+_, _≤_}
 use native.Mathlib.Omega.{arith}
 use lib.ListN.{length, length-append}
-use Rattle.address.specs.declared.Far.{Far}
-use Rattle.address.specs.declared.Hpfar.{Hpfar}
+use Rattle.registers.specs.declared.Far.{Far}
+use Rattle.registers.specs.declared.Hpfar.{Hpfar}
 use Rattle.edition.specs.Feature.{isEdition}
 use Rattle.log.specs.Answer.{numberOf, sectionIn}
 use Rattle.log.specs.declared.answer.Read.{Read}
@@ -16,7 +16,7 @@ use Rattle.names.specs.Name.{meaningOf}
 use Rattle.names.specs.Table.{sources, valuesAt}
 use Rattle.names.specs.Value.{injections}
 use Rattle.names.proofs.Room.{meaning-length}
-use Rattle.record.specs.declared.kinds.Esr.{Esr}
+use Rattle.registers.specs.declared.Esr.{Esr}
 use Rattle.text.specs.Ascii.{ascii}
 use Rattle.text.proofs.Numerals.{decimal-length, hex-length}
 use Rattle.log_text.specs.Lines.{decimalField, hexField, editionField, refusedText, readText, editionText, injectionText, wordsText}

@@ -2,8 +2,8 @@
 use Prim.Native.Nat.{ℕ}
 use mathlib.Core.Bool.{cond}
 use mathlib.Core.List.{List, [], _++_}
-use Rattle.address.specs.declared.Far.{Far}
-use Rattle.address.specs.declared.Hpfar.{Hpfar}
+use Rattle.registers.specs.declared.Far.{Far}
+use Rattle.registers.specs.declared.Hpfar.{Hpfar}
 use Rattle.edition.specs.Feature.{isEdition}
 use Rattle.log.specs.Answer.{numberOf, sectionIn}
 use Rattle.log.specs.declared.answer.Read.{Read}
@@ -11,7 +11,7 @@ use Rattle.log.specs.declared.answer.Read.the-variants.{Accepted, TooLong, CutS
 use Rattle.log_section.specs.declared.entry.Entry.{Entry}
 use Rattle.names.specs.Name.{meaningOf}
 use Rattle.names.specs.Value.{injections}
-use Rattle.record.specs.declared.kinds.Esr.{Esr}
+use Rattle.registers.specs.declared.Esr.{Esr}
 use Rattle.text.specs.Ascii.{ascii}
 use Rattle.text.specs.Numeral.{decimalText, hexText}
 

@@ -4,11 +4,16 @@ ghost use Rattle.text.specs.Ascii.{ascii};
 ghost use Rattle.text.specs.Append.{Appends};
 ghost use Rattle.log_text.specs.Lines.{decimalField, hexField, refusedText, readText, editionText, injectionText, entryText};
 ghost use Rattle.log_text.specs.Lines.{editionField, wordsText};
-use address::Far;
-use address::Hpfar;
+
+mod cut_lines;
+
+pub use cut_lines::cut_line;
+pub use cut_lines::syndrome_line;
 use log::Entry;
 use log::Read;
-use record::Esr;
+use registers::Esr;
+use registers::Far;
+use registers::Hpfar;
 
 // Appends a space and a number.
 pub fn decimal_field(out: &mut [u8], at: usize, n: u64) -> usize
@@ -49,7 +54,7 @@ fn refused(out: &mut [u8], at: usize, answer: Read) -> usize
     ensures { λ end. ⌜ Appends (refusedText answer) (now (out .entry)) at (now (out .exit)) end ⌝ }
 {
     let word = text::append(out, at, b"refused");
-    let number = decimal_field(out, word, log::number_of(answer) as u64);
+    let number = decimal_field(out, word, log::number(answer) as u64);
     let section = decimal_field(out, number, log::section_in(answer) as u64);
     text::append(out, section, b"\n")
 }

@@ -16,7 +16,7 @@ pub enum Written {
 }
 
 // The answer's number in the definition.
-pub fn number_of(answer: Written) -> u32
+pub fn number(answer: Written) -> u32
     ensures { λ n. ⌜ n ≡ numberOf answer ⌝ }
 {
     match answer {

@@ -9,7 +9,7 @@ mod put;
 
 pub use answer::Written;
 pub use answer::length_in;
-pub use answer::number_of;
+pub use answer::number;
 
 // The words of ESR, FAR and HPFAR, each kind in a struct of its own, so that a caller can't exchange them.
 pub struct Syndromes<'a>(pub &'a [u64]);

@@ -9,7 +9,7 @@ use Rattle.exception.specs.declared.state.Guest.{Guest}
 use Rattle.resume.specs.declared.Resumed.{Resumed}
 use Rattle.resume.specs.Return.{returned}
 use Rattle.resume.specs.Same.{SameBut, OnlyMoved}
-use Rattle.resume.specs.Nest.{taken, correctionAt, modesOf, writtenBy, distinct, Typed}
+use Rattle.resume.specs.Nest.{taken, correctionAt, modesOf, writtenBy, distinctModes, Typed}
 use Rattle.resume.specs.Nest as rows
 use Rattle.resume.proofs.Answers.{only-moved}
 use Rattle.resume.proofs.Sames.{same-refl, moved-trans}
@@ -37,7 +37,7 @@ return-as-rows (e ∷ es) s t a = (
   ap (λ (r : Resumed). r .answer) (as-row s e es (t .0) (as-rows es (after s e) (t .1))) ∙ a .1,
 )
 
-pub nest-back : (es : List Entry) (s : Guest) → Typed s → AllTaken s es → distinct (modesOf (exceptions es)) ≡ true
+pub nest-back : (es : List Entry) (s : Guest) → Typed s → AllTaken s es → distinctModes (modesOf (exceptions es)) ≡ true
     → AllReturn s es × SameBut (modesOf (exceptions es)) (writtenBy (exceptions es)) (nested s es) s
 nest-back [] s typed t d = (tt, same-refl [] [] s)
 nest-back (e ∷ es) s typed t d =

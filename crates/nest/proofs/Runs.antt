@@ -14,7 +14,7 @@ use Rattle.delivery.specs.Deliver.{guestDelivery}
 use Rattle.resume.specs.declared.Resumed.{Resumed}
 use Rattle.resume.specs.Return.{returned}
 use Rattle.resume.specs.Same.{SameBut}
-use Rattle.resume.specs.Nest.{modesOf, writtenBy, distinct, Typed}
+use Rattle.resume.specs.Nest.{modesOf, writtenBy, distinctModes, Typed}
 use Rattle.resume.proofs.Answers as return
 use Rattle.nest.specs.Entry.{Entry, injecting, delivering, TakenIn, after, correctionOf}
 use Rattle.nest.specs.Nest.{AllTaken, nested, AllReturn, exceptions}
@@ -61,7 +61,7 @@ all-returned (m ∷ ms) s last run a =
 -- OVER RUNS: whatever injections and delivery steps were made and taken, each in the state that the last one left, no two entering the same
 -- mode, and then returned in turn: each return answered 0, and the last state is the first one, but for the saved status and link registers
 -- of the modes entered and the fault registers written
-pub run-back : (ms : List Made) (s last : Guest) → Typed s → Run s ms last → distinct (modesOf (exceptions (entriesOf ms))) ≡ true
+pub run-back : (ms : List Made) (s last : Guest) → Typed s → Run s ms last → distinctModes (modesOf (exceptions (entriesOf ms))) ≡ true
     → AllReturned ms × SameBut (modesOf (exceptions (entriesOf ms))) (writtenBy (exceptions (entriesOf ms))) last s
 run-back ms s last typed run d =
     let made = as-nested ms s last run in

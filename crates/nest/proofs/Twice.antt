@@ -19,7 +19,7 @@ use Rattle.guest.specs.declared.injection.Injection.the-variants.{UndefinedAt}
 use Rattle.guest.specs.Inject.{injectionAnswer, injected}
 use Rattle.resume.specs.Return.{restored, returnAnswer, returned}
 use Rattle.resume.specs.Same.{SameBut}
-use Rattle.resume.specs.Nest.{modesOf, writtenBy, distinct}
+use Rattle.resume.specs.Nest.{modesOf, writtenBy, distinctModes}
 use Rattle.nest.specs.Entry.{Entry, injecting}
 use Rattle.nest.specs.Nest.{AllTaken, nested, AllReturn, exceptions}
 
@@ -57,5 +57,5 @@ twice-left = (refl, refl)
 pub twice-not-back : SameBut (modesOf (exceptions twice)) (writtenBy (exceptions twice)) (nested first twice) first → ⊥
 twice-not-back same = true≢false (told (λ (n : ℕ). eqb n 0x9B) (sym (same .status) ∙ twice-left .0))
 
-pub twice-one-mode : distinct (modesOf (exceptions twice)) ≡ false
+pub twice-one-mode : distinctModes (modesOf (exceptions twice)) ≡ false
 twice-one-mode = refl

@@ -12,13 +12,13 @@ use Rattle.pending.specs.declared.Kind.{Kind}
 use Rattle.pending.specs.declared.Kind.the-variants.{Abort, Fiq, Irq}
 use Rattle.pending.specs.declared.Queue.{Queue}
 use Rattle.pending.specs.declared.Queue.the-variants.{Empty, One, Two, Three}
-use Rattle.pending.specs.Plain.{same, waits, distinct, raised}
+use Rattle.pending.specs.Plain.{same, waits, distinctKinds, raised}
 use Rattle.pending.specs.Reading.{neighbour, listOf}
 use Rattle.pending.proofs.Round.{all-wait, third, second}
 use Rattle.pending.proofs.Lists.{raise-keeps, raise-adds}
 
 -- NO QUEUE HAS A KIND TWICE
-pub no-repeats : (q : Queue) → distinct (listOf q) ≡ true
+pub no-repeats : (q : Queue) → distinctKinds (listOf q) ≡ true
 no-repeats Empty = refl
 no-repeats (One a) = refl
 no-repeats (Two Abort true) = refl

@@ -10,7 +10,7 @@ use Rattle.pending.specs.declared.Queue.{Queue}
 use Rattle.pending.specs.declared.Queue.the-variants.{Empty}
 use Rattle.pending.specs.declared.Choice.{Choice}
 use Rattle.pending.specs.declared.Choice.the-variants.{Nothing, Oldest}
-use Rattle.pending.specs.Plain.{same, waits, distinct, chosen}
+use Rattle.pending.specs.Plain.{same, waits, distinctKinds, chosen}
 use Rattle.pending.specs.Reading.{listOf, choiceOf}
 use Rattle.pending.specs.Step.{Delivery, refused, nothing, delivered, taken}
 use Rattle.pending.specs.Run.{Call, raise, deliver, Made, raising, delivering, callOf, callsOf, lastFrom, Promised, Run}
@@ -27,10 +27,10 @@ raisings [] = []
 raisings (k ∷ l) = raising k ∷ raisings l
 
 -- where no kind stands twice, one that stands in the list isn't before itself
-apart : (k : Kind) (l rest : List Kind) → distinct (l ++ (k ∷ rest)) ≡ true → waits k l ≡ false
+apart : (k : Kind) (l rest : List Kind) → distinctKinds (l ++ (k ∷ rest)) ≡ true → waits k l ≡ false
 apart k [] rest e = refl
 apart k (j ∷ l) rest e =
-    by (same k j) refl (apart k l rest (and-right (not (waits j (l ++ (k ∷ rest)))) (distinct (l ++ (k ∷ rest))) e))
+    by (same k j) refl (apart k l rest (and-right (not (waits j (l ++ (k ∷ rest)))) (distinctKinds (l ++ (k ∷ rest))) e))
   where
     here : same k j ≡ true → waits j (l ++ (k ∷ rest)) ≡ true
     here t =
@@ -41,22 +41,22 @@ apart k (j ∷ l) rest e =
     by true t f =
         absurd
         (true≢false
-        (sym (here t) ∙ not-true _ (and-left (not (waits j (l ++ (k ∷ rest)))) (distinct (l ++ (k ∷ rest))) e)))
+        (sym (here t) ∙ not-true _ (and-left (not (waits j (l ++ (k ∷ rest)))) (distinctKinds (l ++ (k ∷ rest))) e)))
     by false t f = f
 
 module _ {S : Type 0} (d : Delivery S) where
-  raise-all : (q : Queue) (l : List Kind) → distinct (listOf q ++ l) ≡ true
+  raise-all : (q : Queue) (l : List Kind) → distinctKinds (listOf q ++ l) ≡ true
       → (last : Queue) × Run d q (raisings l) last × (listOf last ≡ (listOf q ++ l))
   raise-all q [] e = (q, refl, sym (append-nil (listOf q)))
   raise-all q (k ∷ l) e =
       let r = raise-queue q k in
       let longer : listOf (r .0) ++ l ≡ listOf q ++ (k ∷ l) =
       ap (λ (x : List Kind). x ++ l) (r .1 ∙ raise-adds k (listOf q) (apart k (listOf q) l e)) ∙ append-assoc (listOf q) (k ∷ []) l in
-      let rest = raise-all (r .0) l (ap distinct longer ∙ e) in
+      let rest = raise-all (r .0) l (ap distinctKinds longer ∙ e) in
       (rest .0, (r .0, r .1, rest .1), rest .2 ∙ longer)
 
   -- EACH LIST WITHOUT REPEATS is some queue's: the one that raising its kinds in turn leaves, with nothing waiting before
-  pub reached : (l : List Kind) → distinct l ≡ true → (last : Queue) × Run d Empty (raisings l) last × (listOf last ≡ l)
+  pub reached : (l : List Kind) → distinctKinds l ≡ true → (last : Queue) × Run d Empty (raisings l) last × (listOf last ≡ l)
   reached = raise-all Empty
 
   -- a call has an answer and a queue that it leaves, as promised
@@ -84,9 +84,9 @@ module _ {S : Type 0} (d : Delivery S) where
       (first .0 ∷ rest .0, rest .1, (first .1, first .2, rest .2), ap₂ (λ (x : Call S) (y : List (Call S)). x ∷ y) (first .3) (rest .3))
 
   -- so that the plain queue, too, never has a kind twice
-  pub run-distinct : (calls : List (Call S)) → distinct (lastFrom d [] calls) ≡ true
+  pub run-distinct : (calls : List (Call S)) → distinctKinds (lastFrom d [] calls) ≡ true
   run-distinct calls =
       let found = run-of Empty calls in
-      ap (λ (c : List (Call S)). distinct (lastFrom d [] c)) (sym (found .3))
-      ∙ ap distinct (sym (runs d Empty (found .1) (found .0) refl (found .2) .1))
+      ap (λ (c : List (Call S)). distinctKinds (lastFrom d [] c)) (sym (found .3))
+      ∙ ap distinctKinds (sym (runs d Empty (found .1) (found .0) refl (found .2) .1))
       ∙ no-repeats (found .1)

@@ -21,9 +21,9 @@ waits k [] = false
 waits k (j ∷ l) = same k j || waits k l
 
 -- no kind waits twice
-abbrev pub distinct : List Kind → Bool
-distinct [] = true
-distinct (k ∷ l) = not (waits k l) && distinct l
+abbrev pub distinctKinds : List Kind → Bool
+distinctKinds [] = true
+distinctKinds (k ∷ l) = not (waits k l) && distinctKinds l
 
 -- RAISE: a kind that waits keeps its place, and every other goes to the end
 unfoldable pub raised : Kind → List Kind → List Kind

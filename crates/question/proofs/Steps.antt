@@ -9,7 +9,7 @@ use native.Mathlib.Omega.{arith}
 use borrow.Author.Tests.{eq-eqb, ne-eqb, le-leb}
 use lib.ListN.{length, getD, take, drop, length-take, length-drop}
 use lib.Seq.{take-all}
-use Rattle.line.specs.Line.{wordOf, wordIn, lineOf}
+use Rattle.line.specs.Line.{wordOf, digitsWord, lineOf}
 use Rattle.line.specs.declared.Line.{Line}
 use Rattle.line.specs.declared.Word.{Word}
 use Rattle.text.specs.Digit.{hexDigit}
@@ -17,7 +17,7 @@ use Rattle.text.specs.declared.Digit.{Digit}
 use Rattle.question.specs.Question.{trapFrom, trapOf, shortFrom, saysShort, shortOf}
 use Rattle.question.specs.declared.Question.{Question}
 
-few : (digits : List ℕ) → length digits ≤ 16 → wordOf digits ≡ wordIn digits
+few : (digits : List ℕ) → length digits ≤ 16 → wordOf digits ≡ digitsWord digits
 few digits h = simp (le-leb (length digits) 16 h)
 
 module _ (line : List ℕ) where
@@ -30,7 +30,7 @@ module _ (line : List ℕ) where
   short-asked s d w =
       ap (λ (b : Bool). cond b (shortFrom (hexDigit (getD line 6 0)) (wordOf (drop 8 line))) Question.None) s ∙ ap₂ shortFrom d w
 
-  pub eight : length line ≡ 16 → wordOf (drop 8 line) ≡ wordIn (take (length line - 8) (drop 8 line))
+  pub eight : length line ≡ 16 → wordOf (drop 8 line) ≡ digitsWord (take (length line - 8) (drop 8 line))
   eight l =
       let size : length (drop 8 line) ≤ length line - 8 = simp length-drop (omega arith) in
       rw (take-all (length line - 8) (drop 8 line) size) (few (drop 8 line) (simp length-drop (omega arith)))
@@ -48,5 +48,5 @@ module _ (line : List ℕ) where
       simp (eq-eqb (getD line 18 0) (code " ") s, eq-eqb (getD line 35 0) (code " ") t)
       (ap₂ (λ (a : Line) (b : Word). trapFrom a b (wordOf (take 16 (drop 36 line)))) e f′ ∙ ap (trapFrom l f) h′)
 
-  pub sixteen : (from : ℕ) → wordOf (take 16 (drop from line)) ≡ wordIn (take 16 (drop from line))
+  pub sixteen : (from : ℕ) → wordOf (take 16 (drop from line)) ≡ digitsWord (take 16 (drop from line))
   sixteen from = few (take 16 (drop from line)) (simp length-take (omega arith))

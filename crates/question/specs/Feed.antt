@@ -16,8 +16,8 @@ fed s byte =
     cond (ltb (s .count) 52) (record { bytes = set (s .bytes) (s .count) byte; count = s .count + 1 })
     (record { bytes = s .bytes; count = 53 })
 
-abbrev pub finished : State → Question
-finished s = cond (leb (s .count) 52) (questionOf (take (s .count) (s .bytes))) Question.None
+abbrev pub ended : State → Question
+ended s = cond (leb (s .count) 52) (questionOf (take (s .count) (s .bytes))) Question.None
 
 -- a whole line
 abbrev pub fedAll : State → List ℕ → State

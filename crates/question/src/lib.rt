@@ -6,7 +6,7 @@ ghost use mathlib.Core.Path.{_≡_};
 ghost use lib.ListN.{length};
 ghost use Rattle.line.specs.Line.{lineOf};
 ghost use Rattle.question.specs.Question.{wordFrom, trapOf, saysShort, shortOf, questionOf};
-ghost use Rattle.question.specs.Feed.{started, fed, finished};
+ghost use Rattle.question.specs.Feed.{started, fed, ended};
 use line::Line;
 use line::Word;
 use text::Digit;
@@ -151,7 +151,7 @@ pub fn feed(state: State, byte: u8) -> State
 
 // What the line asks that came.
 pub fn finish(state: State) -> Question
-    ensures { λ q. ⌜ q ≡ finished state ⌝ }
+    ensures { λ q. ⌜ q ≡ ended state ⌝ }
 {
     let bytes = state.bytes;
     let count = state.count;

@@ -13,7 +13,8 @@ use Rattle.bits.specs.Field.{fieldOf, bitOf}
 use Rattle.bits.specs.Layout.{fitting}
 use Rattle.bits.proofs.Booleans.{is-true}
 use Rattle.edition.specs.Feature.{isEdition}
-use Rattle.iss.specs.Rule.{implies, extensionRule, maintenanceRule}
+use Rattle.iss.specs.Rule.{extensionRule, maintenanceRule}
+use Rattle.bits.specs.Test.{implies}
 use Rattle.layout.specs.Fields.{fieldsOf, recordWord}
 use Rattle.record.specs.Class.{isClass}
 use Rattle.record.specs.Split.{recordAt}

@@ -15,7 +15,8 @@ use Rattle.bits.proofs.Booleans.{and-left, and-right}
 use Rattle.bits.proofs.Deciding.{all-pass}
 use Rattle.bits.proofs.Fields.{AllBack, all-back}
 use Rattle.edition.specs.Feature.{ras, lpa2, hafdbs, isEdition}
-use Rattle.iss.specs.Rule.{implies, between, mmuFault, conditionRule, directionRule, addressingRule, passedRule}
+use Rattle.iss.specs.Rule.{mmuFault, conditionRule, directionRule, addressingRule, passedRule}
+use Rattle.bits.specs.Test.{implies, between}
 use Rattle.iss.specs.Rule.{externalRule, walkRule, abortRule, extensionRule, maintenanceRule}
 use Rattle.layout.specs.Fields.{debugCode, fieldsOf, recordWord}
 use Rattle.layout.proofs.RoundTrip.{fields-ordered}

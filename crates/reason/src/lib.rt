@@ -3,7 +3,7 @@
 ghost use mathlib.Core.Path.{_≡_};
 ghost use Rattle.reason.specs.Reason.{debugExceptions, whyOf};
 ghost use Rattle.bits.specs.Among.{among};
-use record::Esr;
+use registers::Esr;
 
 pub mod aborts;
 pub mod kinds;

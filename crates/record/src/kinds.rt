@@ -1,9 +1,6 @@
 // The records: what a syndrome word says, by kind of exception. A record can hold what no word has, as a register number
 // of 40 or IL 0 at an abort, so that the writer can refuse it.
 
-// A syndrome word: ESR_EL2.
-pub struct Esr(pub u64);
-
 // Classes 0x00, 0x0E and 0x22: the class says all.
 pub struct Plain {
     pub class: u32,

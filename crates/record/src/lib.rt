@@ -15,7 +15,6 @@ pub use kinds::Addresses;
 pub use kinds::Call;
 pub use kinds::DataAbort;
 pub use kinds::Debug;
-pub use kinds::Esr;
 pub use kinds::Head;
 pub use kinds::InstructionAbort;
 pub use kinds::Ldc;

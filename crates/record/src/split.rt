@@ -5,7 +5,6 @@ ghost use Rattle.record.specs.Split.{debugAt, stepAt, watchpointAt, serr
 use super::kinds::Call;
 use super::kinds::DataAbort;
 use super::kinds::Debug;
-use super::kinds::Esr;
 use super::kinds::InstructionAbort;
 use super::kinds::Ldc;
 use super::kinds::Mcr;
@@ -21,6 +20,7 @@ use super::kinds::Watchpoint;
 use super::kinds::Wfx;
 use bits::bit;
 use bits::field32;
+use registers::Esr;
 
 pub fn plain_at(class: u32, word: u64) -> Plain
     ensures { λ r. ⌜ r ≡ plainAt class word ⌝ }

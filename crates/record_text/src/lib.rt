@@ -2,7 +2,7 @@
 // from the record's word (`word-said`, proofs/Record.antt).
 ghost use Rattle.text.specs.Append.{Appends};
 ghost use Rattle.record_text.specs.Inner.{wordText};
-use record::Esr;
+use registers::Esr;
 
 // The fields of a word, by its class.
 pub fn word_lines(out: &mut [u8], at: usize, esr: Esr) -> usize

@@ -20,7 +20,7 @@ use Rattle.resume.specs.declared.Resumed.{Resumed}
 use Rattle.resume.specs.Return.{returned}
 use Rattle.resume.specs.Same.{each, SameBut, OnlyMoved}
 use Rattle.resume.specs.Nest.{Exception, Proper, AllProper, taken, correctionAt, lastLeft, nested, AllReturn, modesOf, writtenBy}
-use Rattle.resume.specs.Nest.{distinct, Typed}
+use Rattle.resume.specs.Nest.{distinctModes, Typed}
 use Rattle.resume.proofs.Answers.{Passes, returns-so, only-moved}
 use Rattle.resume.proofs.Sames.{same-refl, same-trans, moved-trans, passes-same, return-same}
 use Rattle.resume.proofs.Backs.{mode-entered, passes-entered, back-again, undone-same}
@@ -52,15 +52,15 @@ module _ (s : Guest) (x : Exception) (xs : List Exception) (typed : Typed s) (ok
       (undone-same s (x .row) (x .leaves s) (proper .link) (x .writes) (proper .faults s)))
 
 pub nest-same : (xs : List Exception) (s : Guest) → Typed s → sound (s .marks) (s .status) ≡ true → AllProper xs
-    → distinct (modesOf xs) ≡ true
+    → distinctModes (modesOf xs) ≡ true
     → AllReturn s xs × SameBut (modesOf xs) (writtenBy xs) (nested s xs) s
 nest-same [] s typed ok proper d = (tt, same-refl [] [] s)
 nest-same (x ∷ xs) s typed ok proper d =
     let m = x .row .mode in
     let later =
     nest-same xs (taken s x) (typed-again s (x .row) (x .leaves s) typed) (passes-entered s (x .row) (x .leaves s) ok .status) (proper .1)
-    (and-right (not (among (each modeNumber (modesOf xs)) (modeNumber m))) (distinct (modesOf xs)) d) in
-    let other = not-true _ (and-left (not (among (each modeNumber (modesOf xs)) (modeNumber m))) (distinct (modesOf xs)) d) in
+    (and-right (not (among (each modeNumber (modesOf xs)) (modeNumber m))) (distinctModes (modesOf xs)) d) in
+    let other = not-true _ (and-left (not (among (each modeNumber (modesOf xs)) (modeNumber m))) (distinctModes (modesOf xs)) d) in
     ((later .0, returns-around s x xs typed ok (proper .0) other (later .1)), same-around s x xs typed ok (proper .0) other (later .1))
 
 -- EACH AS IT WAS LEFT: no return changes anything but status word and PC, so that a saved word, a link or a fault register is as the last

@@ -66,9 +66,9 @@ writtenBy [] = []
 writtenBy (x ∷ xs) = x .writes ++ writtenBy xs
 
 -- no two enter the same mode
-abbrev pub distinct : List Mode → Bool
-distinct [] = true
-distinct (m ∷ ms) = not (among (each modeNumber ms) (modeNumber m)) && distinct ms
+abbrev pub distinctModes : List Mode → Bool
+distinctModes [] = true
+distinctModes (m ∷ ms) = not (among (each modeNumber ms) (modeNumber m)) && distinctModes ms
 
 -- one exception undone: the first state, but for the link register and the saved status of the mode entered and the fault registers, each
 -- as the exception left it

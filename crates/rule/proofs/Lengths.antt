@@ -5,7 +5,7 @@ use mathlib.Core.Bool.{Bool, false, _||_}
 use Prim.Native.Nat.{ℕ}
 use lib.Dec.{eqb}
 use Rattle.bits.specs.Among.{among}
-use Rattle.iss.specs.Rule.{implies}
+use Rattle.bits.specs.Test.{implies}
 use Rattle.iss.proofs.Lengths.{needed-ignores-isv}
 use Rattle.record.specs.Origin.{fromAArch64}
 use Rattle.record.specs.declared.origin.Origin.{Origin}

@@ -5,7 +5,7 @@ use Prim.Native.Nat.{ℕ}
 use mathlib.Core.Bool.{Bool, _||_}
 use mathlib.Core.List.{List, [], _∷_}
 use Rattle.bits.specs.Among.{among}
-use Rattle.iss.specs.Rule.{implies}
+use Rattle.bits.specs.Test.{implies}
 use Rattle.iss.specs.Il.{ilNeeded}
 use Rattle.record.specs.Origin.{fromAArch64}
 use Rattle.record.specs.declared.origin.Origin.{Origin}

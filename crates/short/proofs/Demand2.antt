@@ -12,7 +12,7 @@ use Rattle.layout.specs.Explained.{explained}
 use Rattle.layout.proofs.Unexplained as Layouts
 use Rattle.short_layout.specs.Fields.{fieldsOf, recordWord}
 use Rattle.short_layout.proofs.RoundTrip.{fields-ordered}
-use Rattle.short_record.specs.declared.kinds.Hsr.{Hsr}
+use Rattle.registers.specs.declared.Hsr.{Hsr}
 use Rattle.short_record.specs.declared.kinds.Record.{Record}
 use Rattle.short_rule.specs.Has.{has}
 use Rattle.short_rule.proofs.Having.{has-fits}

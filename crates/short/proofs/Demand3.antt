@@ -9,7 +9,7 @@ use Rattle.short_rule.specs.Edition.{isEdition, maskOf}
 use Rattle.edition.specs.declared.Refusal.the-variants.{OtherEditions}
 use Rattle.form.specs.Form as Form
 use Rattle.form.proofs.Demand3 as Forms3
-use Rattle.short_record.specs.declared.kinds.Hsr.{Hsr}
+use Rattle.registers.specs.declared.Hsr.{Hsr}
 use Rattle.short_record.specs.declared.kinds.Record.{Record}
 use Rattle.short_rule.specs.Has.{has, editionsOf}
 use Rattle.short.specs.Form.{shortForm}

@@ -5,7 +5,7 @@ use Prim.Native.Nat.{ℕ}
 use Rattle.short_rule.specs.Edition.{maskOf}
 use Rattle.form.specs.Answer.{given, refused}
 use Rattle.form.proofs.Promises as Forms
-use Rattle.short_record.specs.declared.kinds.Hsr.{Hsr}
+use Rattle.registers.specs.declared.Hsr.{Hsr}
 use Rattle.short_record.specs.declared.kinds.Record.{Record}
 use Rattle.short.specs.Form.{shortForm}
 use Rattle.short.specs.Answer.{asCarried, carriedMeans}

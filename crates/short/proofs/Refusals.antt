@@ -14,11 +14,11 @@ use Rattle.edition.proofs.Masks.{mask-bit, mask-bit-above}
 use Rattle.form.proofs.Calls.{OthersHave}
 use Rattle.promise.proofs.Promises.{first-exactly, fails-exactly, number-is}
 use Rattle.form.proofs.Promises as Forms
-use Rattle.short_record.specs.declared.kinds.Hsr.{Hsr}
+use Rattle.registers.specs.declared.Hsr.{Hsr}
 use Rattle.short_record.specs.declared.kinds.Record.{Record}
 use Rattle.short_rule.specs.Has.{has, editionsOf}
 use Rattle.short.specs.Form.{shortForm}
-use Rattle.short.specs.Answer.{readNumbers, writtenNumbers}
+use Rattle.short.specs.Answer.{readSaid, writtenSaid}
 use Rattle.short.specs.Reading.{hasWord, readOf, readList}
 use Rattle.short.specs.Writing.{writeOf, writeList}
 use Rattle.short.specs.declared.answer.Read.{Read}
@@ -32,11 +32,11 @@ OneOfReading k = (k ≡ 0) ⊎ ((k ≡ 1) ⊎ ((k ≡ 3) ⊎ ((k ≡ 4) ⊎ ((k 
 
 module _ (e : ℕ) (hsr : Hsr) where
   -- READING, 0, 1 and 3 to 6, each exactly: at a number the type on the right is the row of tests up to that number's
-  pub read-refused-exactly : (k : ℕ) → (readNumbers .number (readOf e hsr) ≡ k) ↔ FirstFails k (readList e hsr)
+  pub read-refused-exactly : (k : ℕ) → (readSaid .number (readOf e hsr) ≡ k) ↔ FirstFails k (readList e hsr)
   read-refused-exactly = first-exactly (readList e hsr) tt (reads e hsr refl)
 
   -- reading's numbers are 0, 1, 3, 4, 5 and 6
-  pub read-numbers : OneOfReading (readNumbers .number (readOf e hsr))
+  pub read-numbers : OneOfReading (readSaid .number (readOf e hsr))
   read-numbers =
       number-is OneOfReading (readList e hsr) (reads e hsr refl) (
         inr (inl refl),
@@ -63,11 +63,11 @@ OneOfWriting k = (k ≡ 0) ⊎ ((k ≡ 1) ⊎ ((k ≡ 4) ⊎ ((k ≡ 5) ⊎ (k �
 
 module _ (e : ℕ) (r : Record) where
   -- WRITING, each number exactly: a class that the kind lacks and a record that no edition has are both 5
-  pub write-refused-exactly : (k : ℕ) → (writtenNumbers .number (writeOf e r) ≡ k) ↔ FailsWith k (writeList e r)
+  pub write-refused-exactly : (k : ℕ) → (writtenSaid .number (writeOf e r) ≡ k) ↔ FailsWith k (writeList e r)
   write-refused-exactly = fails-exactly (writeList e r) (writes e r refl)
 
   -- writing's numbers are 0, 1, 4, 5 and 6
-  pub write-numbers : OneOfWriting (writtenNumbers .number (writeOf e r))
+  pub write-numbers : OneOfWriting (writtenSaid .number (writeOf e r))
   write-numbers =
       number-is OneOfWriting (writeList e r) (writes e r refl)
       (inr (inl refl), (inr (inr (inr (inl refl))), (inr (inr (inl refl)), (inr (inr (inr (inl refl))), (inr (inr (inr (inr refl))), tt)))))

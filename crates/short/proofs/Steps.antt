@@ -20,7 +20,7 @@ use Rattle.form.proofs.Verdicts.{made-mask, verdictOf, call-verdict}
 use Rattle.short_record.specs.Class.{headOf}
 use Rattle.short_layout.specs.Fields.{fieldsOf, recordWord}
 use Rattle.short_record.specs.Split.{recordAt}
-use Rattle.short_record.specs.declared.kinds.Hsr.{Hsr}
+use Rattle.registers.specs.declared.Hsr.{Hsr}
 use Rattle.short_record.specs.declared.kinds.Record.{Record}
 use Rattle.short_layout.proofs.RoundTrip.{word-fits, joined-record}
 use Rattle.short_rule.specs.Has.{has, recordIl, editionsOf}

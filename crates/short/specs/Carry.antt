@@ -6,11 +6,11 @@ use Rattle.edition.specs.Mask.{countBelow}
 use Rattle.short_rule.specs.Edition.{editions, isEdition, maskOf}
 use Rattle.form.specs.Form as Form
 use Rattle.promise.specs.Promise.{Promise}
-use Rattle.short_record.specs.declared.kinds.Hsr.{Hsr}
+use Rattle.registers.specs.declared.Hsr.{Hsr}
 use Rattle.short_record.specs.declared.kinds.Record.{Record}
 use Rattle.short_rule.specs.Has.{has, editionsOf}
 use Rattle.short.specs.Form.{shortForm}
-use Rattle.short.specs.Answer.{asWritten, writtenNumbers, asCarried, carriedNumbers}
+use Rattle.short.specs.Answer.{asWritten, writtenSaid, asCarried, carriedSaid}
 use Rattle.short.specs.Reading.{hasWord, readList}
 use Rattle.short.specs.Writing.{writeList}
 use Rattle.short.specs.declared.answer.Written.{Written}
@@ -23,7 +23,7 @@ rewrittenOf e hsr = asWritten (Form.again (hsr .0) (Form.readAs shortForm e (hsr
 -- the number, mask and count are reading's
 abbrev pub Rewriting : ℕ → Hsr → Written → Type 0
 Rewriting e hsr =
-    Promise writtenNumbers (rewrittenOf e hsr) (decide (readList e hsr) 0) (maskOf (λ x. hasWord x (hsr .0)))
+    Promise writtenSaid (rewrittenOf e hsr) (decide (readList e hsr) 0) (maskOf (λ x. hasWord x (hsr .0)))
     (countBelow editions (λ x. hasWord x (hsr .0)))
 
 -- DEMAND 3: what the writer's edition puts out, the reader's gives back as that very record exactly when it has it, and otherwise refusal 6
@@ -37,4 +37,4 @@ carryNumber writer reader r = decide (writeList writer r) (decide (needs (isEdit
 
 abbrev pub Carrying : ℕ → ℕ → Record → Carried → Type 0
 Carrying writer reader r =
-    Promise carriedNumbers (carriedOf writer reader r) (carryNumber writer reader r) (editionsOf r) (countBelow editions (λ x. has x r))
+    Promise carriedSaid (carriedOf writer reader r) (carryNumber writer reader r) (editionsOf r) (countBelow editions (λ x. has x r))

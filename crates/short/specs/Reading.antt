@@ -8,10 +8,10 @@ use Rattle.short_rule.specs.Edition.{editions, isEdition, maskOf}
 use Rattle.form.specs.Call.{someHas}
 use Rattle.form.specs.Form as Form
 use Rattle.promise.specs.Promise.{Promise}
-use Rattle.short_record.specs.declared.kinds.Hsr.{Hsr}
+use Rattle.registers.specs.declared.Hsr.{Hsr}
 use Rattle.short.specs.Tests.{classKnown, wordIl}
 use Rattle.short.specs.Form.{shortForm}
-use Rattle.short.specs.Answer.{asRead, readNumbers}
+use Rattle.short.specs.Answer.{asRead, readSaid}
 use Rattle.short.specs.declared.answer.Read.{Read}
 
 -- an edition has a word: it has a record that makes the word (`has-word-exactly`, proofs/Demand2.antt)
@@ -35,5 +35,5 @@ readList e hsr =
 -- the word, and how many they are
 abbrev pub Reading : ℕ → Hsr → Read → Type 0
 Reading e hsr =
-    Promise readNumbers (readOf e hsr) (decide (readList e hsr) 0) (maskOf (λ x. hasWord x (hsr .0)))
+    Promise readSaid (readOf e hsr) (decide (readList e hsr) 0) (maskOf (λ x. hasWord x (hsr .0)))
     (countBelow editions (λ x. hasWord x (hsr .0)))

@@ -11,7 +11,7 @@ use Rattle.short_record.specs.Class.{headOf}
 use Rattle.short_record.specs.declared.kinds.Record.{Record}
 use Rattle.short_rule.specs.Has.{has, recordIl, editionsOf}
 use Rattle.short.specs.Form.{shortForm}
-use Rattle.short.specs.Answer.{asWritten, writtenNumbers}
+use Rattle.short.specs.Answer.{asWritten, writtenSaid}
 use Rattle.short.specs.declared.answer.Written.{Written}
 
 unfoldable pub writeOf : ℕ → Record → Written
@@ -30,4 +30,4 @@ writeList e r =
 -- THE PROMISE of writing: the answer; its number, that of the first test that fails; and with 6 alone the mask of the editions that have
 -- the record, and how many they are
 abbrev pub Writing : ℕ → Record → Written → Type 0
-Writing e r = Promise writtenNumbers (writeOf e r) (decide (writeList e r) 0) (editionsOf r) (countBelow editions (λ x. has x r))
+Writing e r = Promise writtenSaid (writeOf e r) (decide (writeList e r) 0) (editionsOf r) (countBelow editions (λ x. has x r))

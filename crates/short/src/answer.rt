@@ -1,6 +1,6 @@
 // What reading a word and writing a record answer.
 use edition::Refusal;
-use short_record::Hsr;
+use registers::Hsr;
 use short_record::Record;
 
 pub enum Read {

@@ -17,7 +17,7 @@ pub use answer::Read;
 pub use answer::Written;
 use edition::Refusal;
 use edition::Verdict;
-use short_record::Hsr;
+use registers::Hsr;
 use short_record::Record;
 
 // The editions that have a record which is to make the word: none where some bit of the word is not the record's.

@@ -8,9 +8,9 @@ ghost use Rattle.short_words.specs.Reading.{recordOf};
 ghost use Rattle.short_calls.specs.Calls.{ReadWords, WrittenWords, WidenedWords};
 ghost use Rattle.widen.specs.Widening.{widenOf};
 use edition::Refusal;
+use registers::Hsr;
 use short::Read;
 use short::Written;
-use short_record::Hsr;
 use short_words::record_of;
 use short_words::words_of;
 

@@ -14,7 +14,8 @@ use Rattle.bits.specs.Layout.{fitting}
 use Rattle.bits.proofs.Among.{among-each}
 use Rattle.bits.proofs.Booleans.{is-true, either-false}
 use Rattle.edition.specs.Feature.{ras}
-use Rattle.iss.specs.Rule.{implies, externalRule, walkRule, extensionRule, maintenanceRule, isvCode}
+use Rattle.iss.specs.Rule.{externalRule, walkRule, extensionRule, maintenanceRule, isvCode}
+use Rattle.bits.specs.Test.{implies}
 use Rattle.reason.specs.Reason.{someSyndrome}
 use Rattle.reason.proofs.Tests.{numbered, all-passed, of-some-test}
 use Rattle.reason.proofs.Exact.{both, valid-both, add}

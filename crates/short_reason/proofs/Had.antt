@@ -10,7 +10,8 @@ use Rattle.bits.specs.Decide.{needs, AllPass}
 use Rattle.bits.proofs.Booleans.{and-left, and-right, not-true-false}
 use Rattle.bits.proofs.Deciding.{all-pass}
 use Rattle.edition.specs.Feature.{ras}
-use Rattle.iss.specs.Rule.{implies, between, mmuFault, conditionRule, directionRule, addressingRule, passedRule}
+use Rattle.iss.specs.Rule.{mmuFault, conditionRule, directionRule, addressingRule, passedRule}
+use Rattle.bits.specs.Test.{implies, between}
 use Rattle.iss.specs.Rule.{externalRule, walkRule, extensionRule, maintenanceRule, isvCode}
 use Rattle.reason.proofs.Exact.{add}
 use Rattle.reason.proofs.Had.{allowed-some, syndrome-some, two, valid-parts, abort-passed}

@@ -5,7 +5,7 @@ use mathlib.Core.Bool.{Bool, not, _&&_, _||_}
 use mathlib.Core.List.{List, [], _∷_}
 use lib.Dec.{eqb, ltb}
 use Rattle.bits.specs.Decide.{Test, needs, decide}
-use Rattle.iss.specs.Rule.{implies}
+use Rattle.bits.specs.Test.{implies}
 use Rattle.reason.specs.Reason.{conditionTest, transferTests, ldcTests, callTests, smcTests, abortTests, faultTests, ownTest}
 use Rattle.reason.specs.Reason.{directedTests, someSyndrome}
 use Rattle.short_layout.specs.Fields.{recordWord}

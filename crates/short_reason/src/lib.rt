@@ -11,7 +11,7 @@ use reason::kinds::condition;
 use reason::kinds::ldc;
 use reason::kinds::smc;
 use reason::kinds::transfer;
-use short_record::Hsr;
+use registers::Hsr;
 use short_record::Record;
 use short_record::Simd;
 

@@ -6,9 +6,6 @@ use record::Plain;
 use record::Smc;
 use record::Wfx;
 
-// A syndrome word of the short form: HSR.
-pub struct Hsr(pub u32);
-
 // Classes 0x03, 0x05 and 0x08: a trapped MCR, MRC or VMRS.
 pub struct Mcr {
     pub class: u32,

@@ -6,7 +6,6 @@ mod split;
 pub use class::head;
 pub use class::is_class;
 pub use kinds::DataAbort;
-pub use kinds::Hsr;
 pub use kinds::InstructionAbort;
 pub use kinds::Ldc;
 pub use kinds::Mcr;

@@ -2,7 +2,6 @@
 ghost use mathlib.Core.Path.{_≡_};
 ghost use Rattle.short_record.specs.Split.{mcrAt, mcrrAt, ldcAt, simdAt, instructionAbortAt, dataAbortAt, recordOf, recordAt};
 use super::kinds::DataAbort;
-use super::kinds::Hsr;
 use super::kinds::InstructionAbort;
 use super::kinds::Ldc;
 use super::kinds::Mcr;
@@ -12,6 +11,7 @@ use super::kinds::Simd;
 use bits::bit;
 use bits::field32;
 use record::split;
+use registers::Hsr;
 
 fn mcr_at(class: u32, word: u64) -> Mcr
     ensures { λ r. ⌜ r ≡ mcrAt class word ⌝ }

@@ -4,7 +4,8 @@ use Prim.Native.Nat.{ℕ}
 use mathlib.Core.Bool.{Bool, true, not, _&&_, _||_}
 use lib.Dec.{eqb}
 use Rattle.edition.specs.Feature.{ras}
-use Rattle.iss.specs.Rule.{implies, between, isvCode}
+use Rattle.iss.specs.Rule.{isvCode}
+use Rattle.bits.specs.Test.{implies, between}
 use Rattle.short_record.specs.declared.kinds.Record.{Record}
 use Rattle.short_rule.specs.Rule.{asynchronous}
 

@@ -4,7 +4,7 @@
 use Prim.Native.Nat.{ℕ}
 use mathlib.Core.Bool.{Bool}
 use lib.Dec.{eqb}
-use Rattle.iss.specs.Rule.{implies}
+use Rattle.bits.specs.Test.{implies}
 use Rattle.iss.specs.Il.{ilNeeded}
 
 abbrev pub ilUnknown : ℕ → Bool

@@ -17,7 +17,7 @@ use Rattle.short.specs.declared.answer.Read.{Read}
 use Rattle.short.proofs.Refusals.{read-refused-exactly}
 use Rattle.short_reason.specs.Reason.{whyOf}
 use Rattle.short_reason.proofs.Exact.{ruleNumbers, why-number, none-broken}
-use Rattle.short_record.specs.declared.kinds.Hsr.{Hsr}
+use Rattle.registers.specs.declared.Hsr.{Hsr}
 
 pub rule-named : (e : ℕ) (hsr : Hsr) → readOf e hsr ≡ Read.Refused NoEdition → whyOf (hsr .0) ≡ 0 → ⊥
 unfolding Form.hasWord

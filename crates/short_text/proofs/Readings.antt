@@ -23,7 +23,7 @@ use Rattle.short.proofs.Refusals.{read-six-exactly}
 use Rattle.short_layout.specs.Fields.{recordWord}
 use Rattle.short_layout.proofs.RoundTrip.{record-back}
 use Rattle.short_record.specs.Split.{recordAt}
-use Rattle.short_record.specs.declared.kinds.Hsr.{Hsr}
+use Rattle.registers.specs.declared.Hsr.{Hsr}
 use Rattle.short_record.specs.declared.kinds.Record.{Record}
 use Rattle.short_rule.specs.Edition.{maskOf}
 use Rattle.short_rule.specs.Has.{has}

@@ -12,7 +12,7 @@ use Rattle.short.specs.Reading.{readOf}
 use Rattle.short.specs.declared.answer.Read.{Read}
 use Rattle.short_reason.specs.Reason.{whyOf}
 use Rattle.short_record.specs.Split.{recordAt}
-use Rattle.short_record.specs.declared.kinds.Hsr.{Hsr}
+use Rattle.registers.specs.declared.Hsr.{Hsr}
 use Rattle.text.specs.Ascii.{ascii}
 use Rattle.short_text.specs.Text.{recordText}
 

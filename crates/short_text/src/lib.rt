@@ -10,8 +10,8 @@ ghost use Rattle.text.specs.Ascii.{ascii};
 ghost use Rattle.short_text.specs.Inner.{shapeOf, wordText, othersLines, readLines};
 ghost use Rattle.short_text.specs.Said.{shortSaid};
 use edition::Refusal;
+use registers::Hsr;
 use short::Read;
-use short_record::Hsr;
 
 // The shape of a word by its class and fault code.
 fn shape(class: u32, code: u32) -> u32

@@ -9,7 +9,7 @@ use native.Mathlib.Omega.{arith}
 use lib.ListN.{length, getD, take, drop, take-append-drop}
 use lib.Seq.{drop-cons, take-at, getD-append-add, getD-drop}
 use Rattle.exception.specs.declared.state.Guest.{Guest}
-use Rattle.state_words.specs.Words.{isMark, marksOf, stateOf, between, wordsOf}
+use Rattle.state_words.specs.Words.{isMark, marksOf, stateOf, afterRegisters, wordsOf}
 use Rattle.state_words.specs.Lent.{Lent}
 
 -- so many elements from a place on
@@ -28,7 +28,7 @@ from (suc n) k w h =
 pub words-back : (w : List ℕ) → length w ≡ 48 → wordsOf w (stateOf w) ≡ w
 unfolding elements
 words-back w l =
-    append-assoc (take 31 w) (between (stateOf w)) (drop 45 w)
+    append-assoc (take 31 w) (afterRegisters (stateOf w)) (drop 45 w)
     ∙ ap (λ (r : List ℕ). take 31 w ++ r) (sym (from 14 31 w (omega arith)))
     ∙ take-append-drop 31 w
 
@@ -42,9 +42,9 @@ behind xs ys n i e = subst (λ (k : ℕ). getD (xs ++ ys) (k + i) 0 ≡ getD ys 
 
 pub state-back : (w : List ℕ) (s : Guest) → length (s .regs) ≡ 31 → marksOf w ≡ s .marks → stateOf (wordsOf w s) ≡ s
 state-back w s l m =
-    let rest = between s ++ drop 45 w in
+    let rest = afterRegisters s ++ drop 45 w in
     let at : (i : ℕ) → getD (s .regs ++ rest) (31 + i) 0 ≡ getD rest i 0 = λ i. behind (s .regs) rest 31 i l in
-    ap stateOf (append-assoc (s .regs) (between s) (drop 45 w))
+    ap stateOf (append-assoc (s .regs) (afterRegisters s) (drop 45 w))
     ∙ (λ j. record {
       regs = take-at (s .regs) rest 31 l j;
       pc = at 0 j;

@@ -41,8 +41,8 @@ stateOf w =
     }
 
 -- what stands between the registers and the marks
-abbrev pub between : Guest → List ℕ
-between s =
+abbrev pub afterRegisters : Guest → List ℕ
+afterRegisters s =
     s .pc ∷ s .status
     ∷ s .saved .fiq ∷ s .saved .irq ∷ s .saved .svc ∷ s .saved .abt ∷ s .saved .und
     ∷ s .faults .dfsr ∷ s .faults .ifsr ∷ s .faults .dfar ∷ s .faults .ifar
@@ -50,4 +50,4 @@ between s =
 
 -- the words with a state in them: the marks' words stay as they are
 abbrev pub wordsOf : List ℕ → Guest → List ℕ
-wordsOf w s = s .regs ++ between s ++ drop 45 w
+wordsOf w s = s .regs ++ afterRegisters s ++ drop 45 w

@@ -22,14 +22,14 @@ entered-mode Fiq = refl
 entered-mode Irq = refl
 
 -- the tests of a sound word, one by one
-pub record Sound (marks : Marks) (w : ℕ) : Type 0 where
+pub record SoundFields (marks : Marks) (w : ℕ) : Type 0 where
   pub mode : isMode (fieldOf w 4 0) ≡ true
   pub clear : not (bitOf w 24) ≡ true
   pub ssbs : allowed (marks .ssbs) (bitOf w 23) ≡ true
   pub pan : allowed (marks .pan) (bitOf w 22) ≡ true
   pub dit : allowed (marks .dit) (bitOf w 21) ≡ true
 
-pub is-sound : (marks : Marks) (w : ℕ) → sound marks w ≡ true → Sound marks w
+pub is-sound : (marks : Marks) (w : ℕ) → sound marks w ≡ true → SoundFields marks w
 unfolding sound
 is-sound marks w e =
     let m = isMode (fieldOf w 4 0) in
@@ -48,7 +48,7 @@ is-sound marks w e =
       dit = and-right (m && j && s && p) d e;
     }
 
-pub make-sound : (marks : Marks) (w : ℕ) → Sound marks w → sound marks w ≡ true
+pub make-sound : (marks : Marks) (w : ℕ) → SoundFields marks w → sound marks w ≡ true
 unfolding sound
 make-sound marks w s = ap₂ _&&_ (ap₂ _&&_ (ap₂ _&&_ (ap₂ _&&_ (s .mode) (s .clear)) (s .ssbs)) (s .pan)) (s .dit)
 
@@ -78,5 +78,5 @@ sound-again marks m a f old sctlr e =
     new : Fields marks m a f old sctlr (entryStatus marks m a f old sctlr)
     new = entry-fields marks m a f old sctlr
 
-    s : Sound marks old
+    s : SoundFields marks old
     s = is-sound marks old e

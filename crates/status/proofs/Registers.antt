@@ -8,7 +8,7 @@ use borrow.Author.Tests.{eq-eqb, eqb-true, ltb-true, not-true}
 use Rattle.bits.proofs.Booleans.{and-left, and-right, holds}
 use Rattle.bits.proofs.Every.{agree, below}
 use Rattle.status.specs.Mode.{isMode}
-use Rattle.status.specs.Register.{numberIn}
+use Rattle.status.specs.Register.{registerNumber}
 use Rattle.status.proofs.Modes.{mode-below}
 
 implied : (a b : Bool) → a ≡ true → (not a || b) ≡ true → b ≡ true
@@ -28,40 +28,40 @@ in-mode test bound t m mode k h = below (test m) (λ k. true) bound (holds (impl
 
 -- each register has one of the 31 numbers, and none has 15
 inRange : ℕ → ℕ → Bool
-inRange m n = ltb (numberIn m n) 31 && not (eqb (numberIn m n) 15)
+inRange m n = ltb (registerNumber m n) 31 && not (eqb (registerNumber m n) 15)
 
 range : T (everywhere inRange 15)
-unfolding inRange numberIn isMode
+unfolding inRange registerNumber isMode
 range = tt
 
 module _ (m : ℕ) (mode : isMode m ≡ true) (n : ℕ) (h : n ≤ 14) where
   inside : inRange m n ≡ true
   inside = in-mode inRange 15 range m mode n (omega arith)
 
-  pub number-below : numberIn m n < 31
+  pub number-below : registerNumber m n < 31
   unfolding inRange
-  number-below = ltb-true _ _ (and-left (ltb (numberIn m n) 31) (not (eqb (numberIn m n) 15)) inside)
+  number-below = ltb-true _ _ (and-left (ltb (registerNumber m n) 31) (not (eqb (registerNumber m n) 15)) inside)
 
-  pub number-not-pc : eqb (numberIn m n) 15 ≡ false
+  pub number-not-pc : eqb (registerNumber m n) 15 ≡ false
   unfolding inRange
-  number-not-pc = not-true _ (and-right (ltb (numberIn m n) 31) (not (eqb (numberIn m n) 15)) inside)
+  number-not-pc = not-true _ (and-right (ltb (registerNumber m n) 31) (not (eqb (registerNumber m n) 15)) inside)
 
 -- two registers as one number, and that they differ or are one
 differ : ℕ → ℕ → Bool
-differ m p = not (eqb (numberIn m (p / 15)) (numberIn m (p % 15))) || eqb (p / 15) (p % 15)
+differ m p = not (eqb (registerNumber m (p / 15)) (registerNumber m (p % 15))) || eqb (p / 15) (p % 15)
 
 pairs : T (everywhere differ 225)
-unfolding differ numberIn isMode
+unfolding differ registerNumber isMode
 pairs = tt
 
 -- NO TWO REGISTERS of a mode are one
-pub number-injective : (m : ℕ) → isMode m ≡ true → (n k : ℕ) → n ≤ 14 → k ≤ 14 → numberIn m n ≡ numberIn m k → n ≡ k
+pub number-injective : (m : ℕ) → isMode m ≡ true → (n k : ℕ) → n ≤ 14 → k ≤ 14 → registerNumber m n ≡ registerNumber m k → n ≡ k
 unfolding differ
-number-injective m mode n k hn hk same = eqb-true n k (implied (eqb (numberIn m n) (numberIn m k)) (eqb n k) (eq-eqb _ _ same) at)
+number-injective m mode n k hn hk same = eqb-true n k (implied (eqb (registerNumber m n) (registerNumber m k)) (eqb n k) (eq-eqb _ _ same) at)
   where
-    at : (not (eqb (numberIn m n) (numberIn m k)) || eqb n k) ≡ true
+    at : (not (eqb (registerNumber m n) (registerNumber m k)) || eqb n k) ≡ true
     at =
         let first : (n * 15 + k) / 15 ≡ n = omega arith in
         let second : (n * 15 + k) % 15 ≡ k = omega arith in
-        sym (ap₂ (λ (a b : ℕ). not (eqb (numberIn m a) (numberIn m b)) || eqb a b) first second)
+        sym (ap₂ (λ (a b : ℕ). not (eqb (registerNumber m a) (registerNumber m b)) || eqb a b) first second)
         ∙ in-mode differ 225 pairs m mode (n * 15 + k) (omega arith)

@@ -19,11 +19,11 @@ abbrev pub linkRegister : ℕ → ℕ
 linkRegister mode = byMode mode 30 16 18 20 22 14
 
 -- R0 to R12 have their own numbers, but R8 to R12 of FIQ are 24 to 28
-unfoldable pub numberIn : ℕ → ℕ → ℕ
-numberIn mode n =
+unfoldable pub registerNumber : ℕ → ℕ → ℕ
+registerNumber mode n =
     cond (eqb n 13) (stackPointer mode)
     (cond (eqb n 14) (linkRegister mode) (cond (eqb mode 0x11 && leb 8 n && leb n 12) (n + 16) n))
 
 -- a mode that isn't accepted holds no register, and no mode holds a register above R14: R15 is the PC
 abbrev pub heldIn : ℕ → ℕ → Held
-heldIn mode n = cond (isMode mode && leb n 14) (Held.Register (numberIn mode n)) Held.Nowhere
+heldIn mode n = cond (isMode mode && leb n 14) (Held.Register (registerNumber mode n)) Held.Nowhere

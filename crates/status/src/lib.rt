@@ -8,7 +8,7 @@ ghost use Rattle.status.specs.Base.{entryA};
 ghost use Rattle.status.specs.Entry.{t32, entryF, entryPan, entrySsbs, entryStatus};
 ghost use Rattle.status.specs.It.{itOf, itAdvance, withIt, itAdvanced};
 ghost use Rattle.status.specs.Spsr.{spsrStatus, SpsrPromise};
-ghost use Rattle.status.specs.Register.{byMode, linkRegister, numberIn, heldIn};
+ghost use Rattle.status.specs.Register.{byMode, linkRegister, registerNumber, heldIn};
 use bits::bit;
 
 // The modes that an exception enters.
@@ -193,7 +193,7 @@ pub fn link_register(mode: u32) -> u32
 
 // The AArch64 number of a register of a mode.
 fn number_in(mode: u32, number: u32) -> u32
-    ensures { λ r. ⌜ r ≡ numberIn mode number ⌝ }
+    ensures { λ r. ⌜ r ≡ registerNumber mode number ⌝ }
 {
     if number == 13 {
         by_mode(mode, 29, 17, 19, 21, 23, 13)

@@ -13,7 +13,7 @@ use Rattle.layout.specs.Fields.{fieldsOf, recordWord}
 use Rattle.layout.proofs.RoundTrip.{fields-ordered}
 use Rattle.layout.proofs.Unexplained as Layouts
 use Rattle.record.specs.declared.origin.Origin.{Origin}
-use Rattle.record.specs.declared.kinds.Esr.{Esr}
+use Rattle.registers.specs.declared.Esr.{Esr}
 use Rattle.record.specs.declared.kinds.Record.{Record}
 use Rattle.rule.specs.Has.{has}
 use Rattle.rule.proofs.Having.{has-fits}

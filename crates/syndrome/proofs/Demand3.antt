@@ -11,7 +11,7 @@ use Rattle.edition.specs.declared.Refusal.the-variants.{OtherEditions}
 use Rattle.form.specs.Form as Form
 use Rattle.form.proofs.Demand3 as Forms3
 use Rattle.record.specs.declared.origin.Origin.{Origin}
-use Rattle.record.specs.declared.kinds.Esr.{Esr}
+use Rattle.registers.specs.declared.Esr.{Esr}
 use Rattle.record.specs.declared.kinds.Record.{Record}
 use Rattle.rule.specs.Has.{has, editionsOf}
 use Rattle.syndrome.specs.Form.{longForm}

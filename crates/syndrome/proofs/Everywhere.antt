@@ -12,7 +12,7 @@ use Rattle.edition.proofs.Masks.{mask-everywhere}
 use Rattle.form.proofs.Forms.{word-record}
 use Rattle.record.specs.Split.{recordAt}
 use Rattle.record.specs.declared.origin.Origin.{Origin}
-use Rattle.record.specs.declared.kinds.Esr.{Esr}
+use Rattle.registers.specs.declared.Esr.{Esr}
 use Rattle.syndrome.specs.Inner.{makes}
 use Rattle.syndrome.specs.Tests.{upperClear, classKnown, wordIl}
 use Rattle.syndrome.specs.Form.{longForm}

@@ -6,7 +6,7 @@ use Rattle.edition.specs.Mask.{maskOf}
 use Rattle.form.specs.Answer.{given, refused}
 use Rattle.form.proofs.Promises as Forms
 use Rattle.record.specs.declared.origin.Origin.{Origin}
-use Rattle.record.specs.declared.kinds.Esr.{Esr}
+use Rattle.registers.specs.declared.Esr.{Esr}
 use Rattle.record.specs.declared.kinds.Record.{Record}
 use Rattle.syndrome.specs.Form.{longForm}
 use Rattle.syndrome.specs.Answer.{asCarried, carriedMeans}

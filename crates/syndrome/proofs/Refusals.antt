@@ -16,11 +16,11 @@ use Rattle.form.proofs.Calls.{OthersHave}
 use Rattle.promise.proofs.Promises.{first-exactly, fails-exactly, number-is}
 use Rattle.form.proofs.Promises as Forms
 use Rattle.record.specs.declared.origin.Origin.{Origin}
-use Rattle.record.specs.declared.kinds.Esr.{Esr}
+use Rattle.registers.specs.declared.Esr.{Esr}
 use Rattle.record.specs.declared.kinds.Record.{Record}
 use Rattle.rule.specs.Has.{has, editionsOf}
 use Rattle.syndrome.specs.Form.{longForm}
-use Rattle.syndrome.specs.Answer.{readNumbers, writtenNumbers}
+use Rattle.syndrome.specs.Answer.{readSaid, writtenSaid}
 use Rattle.syndrome.specs.Reading.{hasWord, readOf, readList}
 use Rattle.syndrome.specs.Writing.{writeOf, writeList}
 use Rattle.syndrome.specs.declared.answer.Read.{Read}
@@ -30,11 +30,11 @@ use Rattle.syndrome.proofs.Promises.{reads, writes}
 
 module _ (o : Origin) (e : ℕ) (esr : Esr) where
   -- READING, 0 to 6, each exactly: at a number the type on the right is the row of tests up to that number's
-  pub read-refused-exactly : (k : ℕ) → (readNumbers .number (readOf o e esr) ≡ k) ↔ FirstFails k (readList o e esr)
+  pub read-refused-exactly : (k : ℕ) → (readSaid .number (readOf o e esr) ≡ k) ↔ FirstFails k (readList o e esr)
   read-refused-exactly = first-exactly (readList o e esr) tt (reads o e esr refl)
 
   -- reading's numbers are 0 to 6
-  pub read-numbers : readNumbers .number (readOf o e esr) ≤ 6
+  pub read-numbers : readSaid .number (readOf o e esr) ≤ 6
   read-numbers =
       number-is (λ k. k ≤ 6) (readList o e esr) (reads o e esr refl)
       (lit≤ tt, (lit≤ tt, (lit≤ tt, (lit≤ tt, (lit≤ tt, (lit≤ tt, tt)))))) (lit≤ tt)
@@ -52,11 +52,11 @@ OneOfWriting k = (k ≡ 0) ⊎ ((k ≡ 1) ⊎ ((k ≡ 4) ⊎ ((k ≡ 5) ⊎ (k �
 
 module _ (o : Origin) (e : ℕ) (r : Record) where
   -- WRITING, each number exactly: a class that the kind lacks and a record that no edition has are both 5
-  pub write-refused-exactly : (k : ℕ) → (writtenNumbers .number (writeOf o e r) ≡ k) ↔ FailsWith k (writeList o e r)
+  pub write-refused-exactly : (k : ℕ) → (writtenSaid .number (writeOf o e r) ≡ k) ↔ FailsWith k (writeList o e r)
   write-refused-exactly = fails-exactly (writeList o e r) (writes o e r refl)
 
   -- writing's numbers are 0, 1, 4, 5 and 6
-  pub write-numbers : OneOfWriting (writtenNumbers .number (writeOf o e r))
+  pub write-numbers : OneOfWriting (writtenSaid .number (writeOf o e r))
   write-numbers =
       number-is OneOfWriting (writeList o e r) (writes o e r refl)
       (inr (inl refl), (inr (inr (inr (inl refl))), (inr (inr (inl refl)), (inr (inr (inr (inl refl))), (inr (inr (inr (inr refl))), tt)))))

@@ -20,7 +20,7 @@ use Rattle.form.proofs.Verdicts.{made-mask, verdictOf, call-verdict}
 use Rattle.layout.specs.Fields.{fieldsOf, recordWord}
 use Rattle.record.specs.Split.{recordAt}
 use Rattle.record.specs.declared.origin.Origin.{Origin}
-use Rattle.record.specs.declared.kinds.Esr.{Esr}
+use Rattle.registers.specs.declared.Esr.{Esr}
 use Rattle.record.specs.declared.kinds.Record.{Record}
 use Rattle.layout.proofs.RoundTrip.{joined-record}
 use Rattle.rule.specs.Has.{recordClass, recordIl, has, editionsOf}

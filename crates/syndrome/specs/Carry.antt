@@ -7,11 +7,11 @@ use Rattle.edition.specs.Mask.{maskOf, countBelow}
 use Rattle.form.specs.Form as Form
 use Rattle.promise.specs.Promise.{Promise}
 use Rattle.record.specs.declared.origin.Origin.{Origin}
-use Rattle.record.specs.declared.kinds.Esr.{Esr}
+use Rattle.registers.specs.declared.Esr.{Esr}
 use Rattle.record.specs.declared.kinds.Record.{Record}
 use Rattle.rule.specs.Has.{has, editionsOf}
 use Rattle.syndrome.specs.Form.{longForm}
-use Rattle.syndrome.specs.Answer.{asWritten, writtenNumbers, asCarried, carriedNumbers}
+use Rattle.syndrome.specs.Answer.{asWritten, writtenSaid, asCarried, carriedSaid}
 use Rattle.syndrome.specs.Reading.{hasWord, readList}
 use Rattle.syndrome.specs.Writing.{writeList}
 use Rattle.syndrome.specs.declared.answer.Written.{Written}
@@ -25,7 +25,7 @@ module _ (o : Origin) where
   -- the number, mask and count are reading's
   abbrev pub Rewriting : ℕ → Esr → Written → Type 0
   Rewriting e esr =
-      Promise writtenNumbers (rewrittenOf e esr) (decide (readList o e esr) 0) (maskOf (λ x. hasWord o x (esr .0)))
+      Promise writtenSaid (rewrittenOf e esr) (decide (readList o e esr) 0) (maskOf (λ x. hasWord o x (esr .0)))
       (countBelow editions (λ x. hasWord o x (esr .0)))
 
   -- DEMAND 3: what the writer's edition puts out, the reader's gives back as that very record exactly when it has it, and otherwise refusal
@@ -39,5 +39,5 @@ module _ (o : Origin) where
 
   abbrev pub Carrying : ℕ → ℕ → Record → Carried → Type 0
   Carrying writer reader r =
-      Promise carriedNumbers (carriedOf writer reader r) (carryNumber writer reader r) (editionsOf o r)
+      Promise carriedSaid (carriedOf writer reader r) (carryNumber writer reader r) (editionsOf o r)
       (countBelow editions (λ x. has o x r))

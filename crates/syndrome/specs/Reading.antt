@@ -10,10 +10,10 @@ use Rattle.form.specs.Call.{someHas}
 use Rattle.form.specs.Form as Form
 use Rattle.promise.specs.Promise.{Promise}
 use Rattle.record.specs.declared.origin.Origin.{Origin}
-use Rattle.record.specs.declared.kinds.Esr.{Esr}
+use Rattle.registers.specs.declared.Esr.{Esr}
 use Rattle.syndrome.specs.Tests.{upperClear, classKnown, wordIl}
 use Rattle.syndrome.specs.Form.{longForm}
-use Rattle.syndrome.specs.Answer.{asRead, readNumbers}
+use Rattle.syndrome.specs.Answer.{asRead, readSaid}
 use Rattle.syndrome.specs.declared.answer.Read.{Read}
 
 module _ (o : Origin) where
@@ -39,5 +39,5 @@ module _ (o : Origin) where
   -- the word, and how many they are
   abbrev pub Reading : ℕ → Esr → Read → Type 0
   Reading e esr =
-      Promise readNumbers (readOf e esr) (decide (readList e esr) 0) (maskOf (λ x. hasWord x (esr .0)))
+      Promise readSaid (readOf e esr) (decide (readList e esr) 0) (maskOf (λ x. hasWord x (esr .0)))
       (countBelow editions (λ x. hasWord x (esr .0)))

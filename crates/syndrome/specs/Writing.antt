@@ -12,7 +12,7 @@ use Rattle.record.specs.declared.origin.Origin.{Origin}
 use Rattle.record.specs.declared.kinds.Record.{Record}
 use Rattle.rule.specs.Has.{recordClass, recordIl, has, editionsOf}
 use Rattle.syndrome.specs.Form.{longForm}
-use Rattle.syndrome.specs.Answer.{asWritten, writtenNumbers}
+use Rattle.syndrome.specs.Answer.{asWritten, writtenSaid}
 use Rattle.syndrome.specs.declared.answer.Written.{Written}
 
 module _ (o : Origin) where
@@ -32,4 +32,4 @@ module _ (o : Origin) where
   -- THE PROMISE of writing: the answer; its number, that of the first test that fails; and with 6 alone the mask of the editions that have
   -- the record, and how many they are
   abbrev pub Writing : ℕ → Record → Written → Type 0
-  Writing e r = Promise writtenNumbers (writeOf e r) (decide (writeList e r) 0) (editionsOf o r) (countBelow editions (λ x. has o x r))
+  Writing e r = Promise writtenSaid (writeOf e r) (decide (writeList e r) 0) (editionsOf o r) (countBelow editions (λ x. has o x r))

@@ -1,7 +1,7 @@
 // What reading a word and writing a record answer.
 use edition::Refusal;
-use record::Esr;
 use record::Record;
+use registers::Esr;
 
 pub enum Read {
     Taken(Record),

@@ -19,9 +19,9 @@ pub use answer::Read;
 pub use answer::Written;
 use edition::Refusal;
 use edition::Verdict;
-use record::Esr;
 use record::Origin;
 use record::Record;
+use registers::Esr;
 
 // The editions that have the record at the word's bits, where the word's class and IL are right: none where some bit of the word is not the
 // record's.

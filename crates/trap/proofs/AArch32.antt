@@ -17,7 +17,7 @@ use Rattle.rule.specs.Il.{ilRule}
 use Rattle.layout_rule.specs.Rule.{conditionFrom, validSyndromeRule, extensionFrom, dataRule}
 use Rattle.rule.specs.Has.{recordClass}
 use Rattle.address.specs.Page.{farRule}
-use Rattle.address.specs.declared.Far.{Far}
+use Rattle.registers.specs.declared.Far.{Far}
 use Rattle.trap.specs.Base.{baseClasses, baseOwn, baseIl, baseValid, baseData, baseFar}
 
 -- the classes of the build

@@ -14,10 +14,10 @@ use Rattle.promise.specs.Promise.{sixOnly}
 use Rattle.promise.proofs.Promises.{kept}
 use Rattle.record.specs.Addresses.{addressesOf}
 use Rattle.record.specs.declared.origin.Origin.{Origin}
-use Rattle.record.specs.declared.kinds.Esr.{Esr}
+use Rattle.registers.specs.declared.Esr.{Esr}
 use Rattle.record.specs.declared.kinds.Record.{Record}
-use Rattle.address.specs.declared.Far.{Far}
-use Rattle.address.specs.declared.Hpfar.{Hpfar}
+use Rattle.registers.specs.declared.Far.{Far}
+use Rattle.registers.specs.declared.Hpfar.{Hpfar}
 use Rattle.syndrome.specs.Reading.{hasWord, readOf, readList, Reading}
 use Rattle.syndrome.specs.declared.answer.Read.{Read}
 use Rattle.syndrome.proofs.Promises.{reads}

@@ -19,13 +19,13 @@ use Rattle.promise.proofs.Promises.{first-exactly, number-is}
 use Rattle.record.specs.Addresses.{addressesOf}
 use Rattle.record.specs.declared.origin.Origin.{Origin}
 use Rattle.record.specs.declared.kinds.Addresses.{Addresses}
-use Rattle.record.specs.declared.kinds.Esr.{Esr}
+use Rattle.registers.specs.declared.Esr.{Esr}
 use Rattle.record.specs.declared.kinds.Record.{Record}
 use Rattle.address.specs.Known.{farCounts, hpfarCounts}
 use Rattle.address.specs.Page.{hpfarRule, farRule, pageAddress}
 use Rattle.address.specs.Shown.{virtualOf, intermediateOf}
-use Rattle.address.specs.declared.Far.{Far}
-use Rattle.address.specs.declared.Hpfar.{Hpfar}
+use Rattle.registers.specs.declared.Far.{Far}
+use Rattle.registers.specs.declared.Hpfar.{Hpfar}
 use Rattle.address.specs.declared.VirtualAddress.{VirtualAddress}
 use Rattle.address.specs.declared.IntermediateAddress.{IntermediateAddress}
 use Rattle.address.proofs.Registers.{unknown-intermediate, intermediate-hidden, walked, intermediate-shown}

@@ -7,19 +7,19 @@ use Rattle.bits.specs.Decide.{Test, needs, decide}
 use Rattle.edition.specs.Feature.{editions}
 use Rattle.edition.specs.Mask.{maskOf, countBelow}
 use Rattle.promise.specs.Promise.{Promise}
-use Rattle.iss.specs.Rule.{implies}
+use Rattle.bits.specs.Test.{implies}
 use Rattle.record.specs.Addresses.{addressesOf}
 use Rattle.record.specs.declared.origin.Origin.{Origin}
 use Rattle.record.specs.declared.kinds.Addresses.{Addresses}
-use Rattle.record.specs.declared.kinds.Esr.{Esr}
+use Rattle.registers.specs.declared.Esr.{Esr}
 use Rattle.record.specs.declared.kinds.Record.{Record}
 use Rattle.address.specs.Known.{farCounts, hpfarCounts}
 use Rattle.address.specs.Page.{hpfarRule, farRule}
-use Rattle.address.specs.declared.Far.{Far}
-use Rattle.address.specs.declared.Hpfar.{Hpfar}
+use Rattle.registers.specs.declared.Far.{Far}
+use Rattle.registers.specs.declared.Hpfar.{Hpfar}
 use Rattle.syndrome.specs.Reading.{hasWord, readOf, readList}
 use Rattle.syndrome.specs.declared.answer.Read.{Read}
-use Rattle.trap.specs.Numbers.{answerNumbers}
+use Rattle.trap.specs.Numbers.{answerSaid}
 use Rattle.trap.specs.Trap.{trapOf}
 use Rattle.trap_refusal.specs.declared.TrapRefusal.{TrapRefusal}
 use Rattle.trap.specs.declared.Answer.{Answer}
@@ -66,5 +66,5 @@ module _ (o : Origin) where
   -- that have the word, and how many they are
   abbrev pub TrapReading : ℕ → Esr → Far → Hpfar → Answer → Type 0
   TrapReading e esr far hpfar =
-      Promise answerNumbers (answerOf e esr far hpfar) (decide (trapList e esr far hpfar) 0) (maskOf (λ x. hasWord o x (esr .0)))
+      Promise answerSaid (answerOf e esr far hpfar) (decide (trapList e esr far hpfar) 0) (maskOf (λ x. hasWord o x (esr .0)))
       (countBelow editions (λ x. hasWord o x (esr .0)))

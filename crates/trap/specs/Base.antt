@@ -6,14 +6,15 @@ use mathlib.Core.List.{List, [], _∷_}
 use lib.Dec.{ltb, eqb}
 use Rattle.bits.specs.Among.{among}
 use Rattle.bits.specs.Field.{fieldOf}
-use Rattle.iss.specs.Rule.{implies, extensionRule, maintenanceRule}
+use Rattle.iss.specs.Rule.{extensionRule, maintenanceRule}
+use Rattle.bits.specs.Test.{implies}
 use Rattle.iss.specs.Il.{ilNeeded}
 use Rattle.record.specs.Class.{plainClasses, mcrClasses, mcrrClasses, debugClasses}
 use Rattle.record.specs.declared.kinds.DataAbort.{DataAbort}
 use Rattle.record.specs.declared.kinds.Record.{Record}
 use Rattle.rule.specs.Il.{ilAlways}
 use Rattle.layout_rule.specs.Rule.{noSyndromeRule}
-use Rattle.address.specs.declared.Far.{Far}
+use Rattle.registers.specs.declared.Far.{Far}
 
 -- the sixteen classes of 01 and the six of C-20
 abbrev pub baseClasses : List ℕ

@@ -18,8 +18,8 @@ abbrev pub countAnswer : Answer → ℕ
 countAnswer (Answer.Shown trap) = 0
 countAnswer (Answer.Refused refusal) = trapCount refusal
 
-abbrev pub answerNumbers : Numbers Answer
-answerNumbers = record { number = numberAnswer; mask = maskAnswer; count = countAnswer }
+abbrev pub answerSaid : Numbers Answer
+answerSaid = record { number = numberAnswer; mask = maskAnswer; count = countAnswer }
 
 abbrev pub numberBoth : Both → ℕ
 numberBoth (Both.Shown trap other) = 0

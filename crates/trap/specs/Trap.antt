@@ -4,8 +4,8 @@ use Rattle.record.specs.Addresses.{addressesOf}
 use Rattle.record.specs.declared.kinds.Addresses.{Addresses}
 use Rattle.record.specs.declared.kinds.Record.{Record}
 use Rattle.address.specs.Shown.{virtualOf, intermediateOf}
-use Rattle.address.specs.declared.Far.{Far}
-use Rattle.address.specs.declared.Hpfar.{Hpfar}
+use Rattle.registers.specs.declared.Far.{Far}
+use Rattle.registers.specs.declared.Hpfar.{Hpfar}
 use Rattle.address.specs.declared.VirtualAddress.{VirtualAddress}
 use Rattle.address.specs.declared.IntermediateAddress.{IntermediateAddress}
 use Rattle.trap.specs.declared.Trap.{Trap}

@@ -4,13 +4,13 @@ ghost use Rattle.trap.specs.Answer.{answerOf};
 ghost use Rattle.esr_calls.specs.Calls.{originOf};
 ghost use Rattle.trap_calls.specs.Whole.{syndromeIn, knownIn, addressesIn, virtualKnown, virtualWord, intermediateKnown};
 ghost use Rattle.trap_calls.specs.Whole.{intermediateWord, TrapWords};
-use address::Far;
-use address::Hpfar;
 use address::IntermediateAddress;
 use address::VirtualAddress;
 use esr_calls::origin_of;
-use record::Esr;
 use record::Record;
+use registers::Esr;
+use registers::Far;
+use registers::Hpfar;
 use trap::Answer;
 use trap::Trap;
 

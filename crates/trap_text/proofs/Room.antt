@@ -5,8 +5,8 @@ use mathlib.Core.List.{List, [], _++_}
 use Prim.Native.Nat.{ℕ, zero, suc, _+_, _*_, _≤_}
 use native.Mathlib.Omega.{arith}
 use lib.ListN.{length, length-append}
-use Rattle.address.specs.declared.Far.{Far}
-use Rattle.address.specs.declared.Hpfar.{Hpfar}
+use Rattle.registers.specs.declared.Far.{Far}
+use Rattle.registers.specs.declared.Hpfar.{Hpfar}
 use Rattle.address.specs.declared.IntermediateAddress.{IntermediateAddress}
 use Rattle.address.specs.declared.VirtualAddress.{VirtualAddress}
 use Rattle.bits.specs.Field.{bitOf}
@@ -15,7 +15,7 @@ use Rattle.explain_text.specs.Trap.{trapSaid}
 use Rattle.explain_text.proofs.Room.{trap-said-length}
 use Rattle.log_text.proofs.Room.{decimal-field-length, hex-field-length, edition-field-length, words-length}
 use Rattle.log_text.specs.Lines.{decimalField, hexField, wordsText}
-use Rattle.record.specs.declared.kinds.Esr.{Esr}
+use Rattle.registers.specs.declared.Esr.{Esr}
 use Rattle.record.specs.declared.origin.Origin.{Origin}
 use Rattle.trap.specs.Answer.{answerOf}
 use Rattle.trap_refusal.specs.Numbers.{trapNumber, trapMask, trapCount}

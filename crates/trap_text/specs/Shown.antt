@@ -8,13 +8,13 @@ use Rattle.bits.specs.Field.{bitOf}
 use Rattle.edition.specs.Feature.{editions}
 use Rattle.explain_text.specs.Trap.{trapSaid}
 use Rattle.record.specs.declared.origin.Origin.{Origin}
-use Rattle.record.specs.declared.kinds.Esr.{Esr}
+use Rattle.registers.specs.declared.Esr.{Esr}
 use Rattle.text.specs.Ascii.{ascii}
 use Rattle.trap_refusal.specs.Numbers.{trapNumber, trapMask, trapCount}
 use Rattle.trap.specs.Answer.{answerOf}
 use Rattle.trap.specs.Trap.{virtualIn, intermediateIn}
-use Rattle.address.specs.declared.Far.{Far}
-use Rattle.address.specs.declared.Hpfar.{Hpfar}
+use Rattle.registers.specs.declared.Far.{Far}
+use Rattle.registers.specs.declared.Hpfar.{Hpfar}
 use Rattle.address.specs.declared.VirtualAddress.{VirtualAddress}
 use Rattle.address.specs.declared.IntermediateAddress.{IntermediateAddress}
 use Rattle.trap.specs.declared.Trap.{Trap}

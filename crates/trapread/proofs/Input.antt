@@ -7,7 +7,7 @@ use Prim.Native.Nat.{ℕ}
 use Prim.Native.Char.{code}
 use lib.Dec.{eqb}
 use borrow.Author.Tests.{ne-eqb}
-use Rattle.line.specs.Feed.{started, fed, fedAll, finished}
+use Rattle.line.specs.Feed.{started, fed, fedAll, ended}
 use Rattle.line.specs.Line.{lineOf}
 use Rattle.line.specs.declared.State.{State}
 use Rattle.line.proofs.Feeding.{fed-line, fed-some}
@@ -26,7 +26,7 @@ last-line : (line : List ℕ) → lastText (fedAll started line) ≡ answersTo (
 last-line [] = refl
 last-line (byte ∷ line) =
     let s = fedAll started (byte ∷ line) in
-    ap (λ t. cond t [] (answerText (finished s))) (ne-eqb (s .count) 0 (fed-some byte line)) ∙ ap answerText (fed-line (byte ∷ line))
+    ap (λ t. cond t [] (answerText (ended s))) (ne-eqb (s .count) 0 (fed-some byte line)) ∙ ap answerText (fed-line (byte ∷ line))
     ∙ sym (append-nil (answerText (lineOf (byte ∷ line))))
 
 lines-from : (line input : List ℕ) → written (fedAll started line) input ≡ answersTo (linesFrom line input)
@@ -38,11 +38,11 @@ lines-from line (byte ∷ rest) = go (eqb byte (code "\n")) (lines-from [] rest)
 
     go : (t : Bool) → written started rest ≡ answersTo (linesFrom [] rest)
         → written (fedAll started (line ++ (byte ∷ []))) rest ≡ answersTo (linesFrom (line ++ (byte ∷ [])) rest)
-        → cond t (answerText (finished s) ++ answersIn started rest) (answersIn (fed s byte) rest)
+        → cond t (answerText (ended s) ++ answersIn started rest) (answersIn (fed s byte) rest)
         ++ lastText (cond t (lineAfter started rest) (lineAfter (fed s byte) rest))
         ≡ answersTo (cond t (line ∷ linesFrom [] rest) (linesFrom (line ++ (byte ∷ [])) rest))
     go true new on =
-        append-assoc (answerText (finished s)) (answersIn started rest) (lastText (lineAfter started rest))
+        append-assoc (answerText (ended s)) (answersIn started rest) (lastText (lineAfter started rest))
         ∙ ap₂ (λ first others. first ++ others) (ap answerText (fed-line line)) new
     go false new on = ap (λ t. written t rest) (fed-one-more started line byte) ∙ on
 

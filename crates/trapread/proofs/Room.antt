@@ -9,7 +9,7 @@ use lib.Dec.{eqb}
 use lib.ListN.{length, length-append}
 use Rattle.edition.specs.Judge.{refusalNumber, refusalMask, refusalCount}
 use Rattle.edition.specs.declared.Refusal.{Refusal}
-use Rattle.line.specs.Feed.{started, fed, finished}
+use Rattle.line.specs.Feed.{started, fed, ended}
 use Rattle.line.specs.declared.Line.{Line}
 use Rattle.line.specs.declared.State.{State}
 use Rattle.record.specs.declared.origin.Origin.{Origin}
@@ -39,6 +39,6 @@ chunk-length s [] = omega arith
 chunk-length s (byte ∷ rest) = go (eqb byte (code "\n")) (chunk-length started rest) (chunk-length (fed s byte) rest)
   where
     go : (t : Bool) → length (answersIn started rest) ≤ 128 * length rest → length (answersIn (fed s byte) rest) ≤ 128 * length rest
-        → length (cond t (answerText (finished s) ++ answersIn started rest) (answersIn (fed s byte) rest)) ≤ 128 * suc (length rest)
-    go true new on = simp length-append (omega (arith, answer-length (finished s)))
+        → length (cond t (answerText (ended s) ++ answersIn started rest) (answersIn (fed s byte) rest)) ≤ 128 * suc (length rest)
+    go true new on = simp length-append (omega (arith, answer-length (ended s)))
     go false new on = omega arith

@@ -5,7 +5,7 @@ use mathlib.Core.Bool.{Bool, cond}
 use mathlib.Core.Path.{_≡_}
 use mathlib.Core.List.{List, [], _∷_, _++_}
 use lib.Dec.{eqb}
-use Rattle.line.specs.Feed.{started, fed, finished}
+use Rattle.line.specs.Feed.{started, fed, ended}
 use Rattle.line.specs.Line.{lineOf}
 use Rattle.line.specs.declared.State.{State}
 use Rattle.text.specs.Lines.{stateAfter, chunkText}
@@ -16,7 +16,7 @@ abbrev pub lineAfter : State → List ℕ → State
 lineAfter = stateAfter started fed
 
 abbrev pub answersIn : State → List ℕ → List ℕ
-answersIn = chunkText started fed (λ s. answerText (finished s))
+answersIn = chunkText started fed (λ s. answerText (ended s))
 
 -- some chunk was read after the first bytes of a line: it leaves the line `after`, and the text has its answers
 pub record Answered (before after : State) (text : List ℕ) : Type 0 where
@@ -26,7 +26,7 @@ pub record Answered (before after : State) (text : List ℕ) : Type 0 where
 
 -- a last line without a newline is answered too, where it is not empty
 abbrev pub lastText : State → List ℕ
-lastText s = cond (eqb (s .count) 0) [] (answerText (finished s))
+lastText s = cond (eqb (s .count) 0) [] (answerText (ended s))
 
 -- where a read or a write failed, it is not
 abbrev pub endText : Bool → State → List ℕ

@@ -15,8 +15,8 @@ use libc::STDERR_FILENO;
 use libc::STDIN_FILENO;
 use line::Line;
 use line::State;
-use record::Esr;
 use record::Origin;
+use registers::Esr;
 use syndrome::Read;
 
 // Appends a space and a number.

@@ -10,7 +10,7 @@ use Rattle.short_record.specs.Class.{headOf as shortHead}
 use Rattle.short_record.specs.declared.kinds.Record.{Record as Short}
 use Rattle.status.specs.declared.Held.{Held}
 use Rattle.status.specs.Mode.{isMode}
-use Rattle.status.specs.Register.{numberIn}
+use Rattle.status.specs.Register.{registerNumber}
 use Rattle.status.proofs.Registers.{number-below, number-not-pc, number-injective}
 use Rattle.widen.specs.Register.{numbered, mapped, literal, base}
 use Rattle.widen.specs.Long.{longOf}
@@ -46,9 +46,9 @@ unknown-kept mode am rn l = ap (λ (b : Bool). cond b rn (mapped mode rn)) l
 
 -- in an accepted mode R0 to R14 are mapped by the manual's table
 module _ (mode : ℕ) (accepted : isMode mode ≡ true) where
-  pub mapped-number : (n : ℕ) → n ≤ 14 → mapped mode n ≡ numberIn mode n
+  pub mapped-number : (n : ℕ) → n ≤ 14 → mapped mode n ≡ registerNumber mode n
   mapped-number n h =
-      ap₂ (λ (a b : Bool). numbered n (cond (a && b) (Held.Register (numberIn mode n)) Held.Nowhere)) accepted (le-leb n 14 h)
+      ap₂ (λ (a b : Bool). numbered n (cond (a && b) (Held.Register (registerNumber mode n)) Held.Nowhere)) accepted (le-leb n 14 h)
 
   pub mapped-below : (n : ℕ) → n ≤ 14 → mapped mode n < 31
   mapped-below n h = rw (mapped-number n h) (number-below mode accepted n h)

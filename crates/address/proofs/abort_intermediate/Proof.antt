@@ -9,8 +9,8 @@ use Rattle.bits.specs.Field.{fieldOf}
 use Rattle.address.specs.Known.{intermediateKnown}
 use Rattle.address.specs.Page.{pageAddress}
 use Rattle.address.specs.Shown.{abortIntermediate}
-use Rattle.address.specs.declared.Far.{Far}
-use Rattle.address.specs.declared.Hpfar.{Hpfar}
+use Rattle.registers.specs.declared.Far.{Far}
+use Rattle.registers.specs.declared.Hpfar.{Hpfar}
 use Rattle.address.specs.declared.IntermediateAddress.{IntermediateAddress}
 use Rattle.address.proofs.abort_intermediate.Statement.{statement}
 use Rattle.address.proofs.abort_intermediate.Tie as tie

@@ -2,7 +2,7 @@
 -- Assumes nothing.
 use borrow.Author.Needs.{needs}
 use Rattle.bits.proofs.Arms.{at-arm}
-use Rattle.address.specs.declared.Far.{Far}
+use Rattle.registers.specs.declared.Far.{Far}
 use Rattle.address.specs.Shown.{intermediateOf}
 use Rattle.address.proofs.intermediate_address.Statement.{statement}
 use Rattle.address.proofs.intermediate_address.Tie as tie

@@ -6,7 +6,8 @@ use mathlib.Core.Bool.{Bool, true, cond, not, _||_}
 use Prim.Native.Nat.{ℕ}
 use Rattle.edition.specs.Feature.{ras}
 use Rattle.edition.specs.Mask.{maskOf}
-use Rattle.iss.specs.Rule.{between, mmuFault}
+use Rattle.iss.specs.Rule.{mmuFault}
+use Rattle.bits.specs.Test.{between}
 use Rattle.fault_code.specs.Code.{isvRule}
 use Rattle.fault_code.proofs.Masks.{isv-mask}
 use Rattle.fault_code.proofs.isv_rule.Statement.{statement}

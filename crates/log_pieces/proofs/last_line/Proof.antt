@@ -10,7 +10,7 @@ use borrow.Author.Tests.{eq-eqb, ne-eqb}
 use denote.Ref.{now}
 use Rattle.log.specs.Answer.{numberOf, sectionIn, readOf}
 use Rattle.log.proofs.Answers.{section-named}
-use Rattle.log_cut.specs.Line.{cutText}
+use Rattle.log_text.specs.Cut.{cutText}
 use Rattle.text.proofs.Appending.{appends-none}
 use Rattle.log_pieces.specs.Text.{cutIn}
 use Rattle.log_pieces.proofs.Placed.{same-text}

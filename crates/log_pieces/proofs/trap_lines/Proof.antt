@@ -7,7 +7,7 @@ use Prim.Native.Nat.{_≤_, _<_}
 use denote.Ref.{now}
 use lib.ListN.{length}
 use types.Run.{miss}
-use Rattle.log_cut.specs.Line.{syndromeText}
+use Rattle.log_text.specs.Cut.{syndromeText}
 use Rattle.log_pieces.specs.Text.{shown}
 use Rattle.log_pieces.proofs.Shown.{same-syndrome, same-address}
 use Rattle.log_pieces.proofs.Placed.{with-address, without-address, same-text}

@@ -10,7 +10,7 @@ use Rattle.edition.specs.Judge.{judgeOf}
 use Rattle.edition.specs.declared.Verdict.{Verdict}
 use Rattle.short_record.specs.Class.{isClass}
 use Rattle.short_record.specs.Split.{recordAt}
-use Rattle.short_record.specs.declared.kinds.Hsr.{Hsr}
+use Rattle.registers.specs.declared.Hsr.{Hsr}
 use Rattle.short_record.specs.declared.kinds.Record.{Record}
 use Rattle.short.specs.Inner.{makes}
 use Rattle.short.specs.Tests.{classKnown, wordIl}

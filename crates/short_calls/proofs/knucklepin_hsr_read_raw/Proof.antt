@@ -4,7 +4,7 @@ use borrow.Author.Needs.{needs}
 use mathlib.Core.Path.{_≡_, refl, sym, subst, _∙_}
 use mathlib.Core.List.{List, [], _∷_}
 use Prim.Native.Nat.{ℕ}
-use Rattle.short_record.specs.declared.kinds.Hsr.{Hsr}
+use Rattle.registers.specs.declared.Hsr.{Hsr}
 use Rattle.short.specs.Reading.{readOf}
 use Rattle.short.specs.declared.answer.Read.{Read}
 use Rattle.short_calls.specs.Calls.{ReadWords}

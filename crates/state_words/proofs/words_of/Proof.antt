@@ -8,18 +8,18 @@ use native.Mathlib.Omega.{arith}
 use lib.ListN.{length, take, drop, length-append, length-drop}
 use lib.Seq.{sets, sets-eq, take-at, drop-append-add, drop-drop}
 use Rattle.exception.specs.declared.state.Guest.{Guest}
-use Rattle.state_words.specs.Words.{between, wordsOf}
+use Rattle.state_words.specs.Words.{afterRegisters, wordsOf}
 use Rattle.state_words.proofs.words_of.Statement.{statement}
 use Rattle.state_words.proofs.words_of.Tie as tie
 
 stored : (w : List ℕ) (s : Guest) (front : List ℕ) → length w ≡ 48 → length (s .regs) ≡ 31 → front ≡ s .regs ++ drop 31 w
-    → sets front 31 (between s) ≡ wordsOf w s
+    → sets front 31 (afterRegisters s) ≡ wordsOf w s
 stored w s front l r e =
     let all : length (s .regs ++ drop 31 w) ≡ 48 = simp (length-append, length-drop) (omega arith) in
-    ap (λ (f : List ℕ). sets f 31 (between s)) e
-    ∙ sets-eq (between s) (s .regs ++ drop 31 w) 31 (omega arith)
-    ∙ ap (λ (f : List ℕ). f ++ between s ++ drop 45 (s .regs ++ drop 31 w)) (take-at (s .regs) (drop 31 w) 31 r)
-    ∙ ap (λ (f : List ℕ). s .regs ++ between s ++ f) (past ∙ drop-drop 14 31 w)
+    ap (λ (f : List ℕ). sets f 31 (afterRegisters s)) e
+    ∙ sets-eq (afterRegisters s) (s .regs ++ drop 31 w) 31 (omega arith)
+    ∙ ap (λ (f : List ℕ). f ++ afterRegisters s ++ drop 45 (s .regs ++ drop 31 w)) (take-at (s .regs) (drop 31 w) 31 r)
+    ∙ ap (λ (f : List ℕ). s .regs ++ afterRegisters s ++ f) (past ∙ drop-drop 14 31 w)
   where
     past : drop 45 (s .regs ++ drop 31 w) ≡ drop 14 (drop 31 w)
     past = ap (λ (k : ℕ). drop (k + 14) (s .regs ++ drop 31 w)) (sym r) ∙ drop-append-add (s .regs) (drop 31 w) 14

@@ -6,15 +6,15 @@ use lib.Dec.{leb}
 use borrow.Author.Needs.{needs}
 use Rattle.status.specs.declared.Held.{Held}
 use Rattle.status.specs.Mode.{isMode}
-use Rattle.status.specs.Register.{numberIn, heldIn}
+use Rattle.status.specs.Register.{registerNumber, heldIn}
 use Rattle.status.proofs.held_in.Statement.{statement}
 use Rattle.status.proofs.held_in.Tie as tie
 
 -- the answer by the code's test
 held : (mode n : ℕ) {accepted holds : Bool} → accepted ≡ isMode mode → (accepted && leb n 14) ≡ holds
-    → cond holds (Held.Register (numberIn mode n)) Held.Nowhere ≡ heldIn mode n
+    → cond holds (Held.Register (registerNumber mode n)) Held.Nowhere ≡ heldIn mode n
 held mode n a h =
-    ap (λ (b : Bool). cond b (Held.Register (numberIn mode n)) Held.Nowhere) (sym h ∙ ap (λ (b : Bool). b && leb n 14) a)
+    ap (λ (b : Bool). cond b (Held.Register (registerNumber mode n)) Held.Nowhere) (sym h ∙ ap (λ (b : Bool). b && leb n 14) a)
 
 is-mode-requires : tie.Need-is-mode-requires
 is-mode-requires c κs = search needs

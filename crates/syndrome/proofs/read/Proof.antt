@@ -12,7 +12,7 @@ use Rattle.edition.specs.declared.Verdict.{Verdict}
 use Rattle.record.specs.Class.{isClass}
 use Rattle.record.specs.Split.{recordAt}
 use Rattle.record.specs.declared.origin.Origin.{Origin}
-use Rattle.record.specs.declared.kinds.Esr.{Esr}
+use Rattle.registers.specs.declared.Esr.{Esr}
 use Rattle.record.specs.declared.kinds.Record.{Record}
 use Rattle.syndrome.specs.Inner.{makes}
 use Rattle.syndrome.specs.Tests.{upperClear, classKnown, wordIl}

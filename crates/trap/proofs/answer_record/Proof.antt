@@ -13,8 +13,8 @@ use Rattle.record.specs.declared.kinds.Addresses.{Addresses}
 use Rattle.record.specs.declared.kinds.Record.{Record}
 use Rattle.address.specs.Known.{farCounts, hpfarCounts}
 use Rattle.address.specs.Page.{hpfarRule, farRule}
-use Rattle.address.specs.declared.Far.{Far}
-use Rattle.address.specs.declared.Hpfar.{Hpfar}
+use Rattle.registers.specs.declared.Far.{Far}
+use Rattle.registers.specs.declared.Hpfar.{Hpfar}
 use Rattle.trap.specs.Trap.{trapFrom, trapOf}
 use Rattle.trap.specs.Answer.{hpfarRight, farRight, answerRecord}
 use Rattle.trap_refusal.specs.declared.TrapRefusal.{TrapRefusal}

@@ -5,9 +5,9 @@ use mathlib.Core.Path.{_≡_, refl, sym, subst, ap, _∙_}
 use mathlib.Core.List.{List, [], _∷_}
 use Prim.Native.Nat.{ℕ}
 use Rattle.record.specs.declared.origin.Origin.{Origin}
-use Rattle.record.specs.declared.kinds.Esr.{Esr}
-use Rattle.address.specs.declared.Far.{Far}
-use Rattle.address.specs.declared.Hpfar.{Hpfar}
+use Rattle.registers.specs.declared.Esr.{Esr}
+use Rattle.registers.specs.declared.Far.{Far}
+use Rattle.registers.specs.declared.Hpfar.{Hpfar}
 use Rattle.record_words.specs.Words.{wordsOf}
 use Rattle.trap.specs.Answer.{answerOf}
 use Rattle.trap.specs.declared.Answer.{Answer}

@@ -8,7 +8,7 @@ use denote.Ref.{now}
 use lib.ListN.{length}
 use Rattle.text.proofs.Appending.{appends-fitting, appends-counts}
 use Rattle.text.proofs.Chunks.{Reading, begun, line-ended, line-on, state-read, text-read}
-use Rattle.line.specs.Feed.{started, fed, finished}
+use Rattle.line.specs.Feed.{started, fed, ended}
 use Rattle.line.specs.declared.State.{State}
 use Rattle.trapread.specs.Answer.{answerText}
 use Rattle.trapread.specs.Lines.{answersIn}
@@ -17,7 +17,7 @@ use Rattle.trapread.proofs.answers.Statement.{statement}
 use Rattle.trapread.proofs.answers.Tie as tie
 
 abbrev answerTo : State → List ℕ
-answerTo s = answerText (finished s)
+answerTo s = answerText (ended s)
 
 abbrev Inv-loop : tie.InvT-loop
 Inv-loop out₀ chunk line₀ end₀ i₀ out line end i = Reading started fed answerTo chunk line₀ out₀ line out end i

@@ -4,7 +4,7 @@ use borrow.Author.Needs.{needs}
 use mathlib.Core.Path.{_≡_, refl, _∙_, ap}
 use Prim.Native.Nat.{ℕ, _-_, _≤_, min}
 use native.Mathlib.Omega.{arith}
-use Rattle.device.specs.Data.{transferred}
+use Rattle.data.specs.Data.{transferred}
 use Rattle.a32_access.specs.Transferred.{padded}
 use Rattle.a32_transfer.specs.Giving.{firsts, givenAt}
 use Rattle.a32_transfer.proofs.Firsts.{one-more}

@@ -1,7 +1,7 @@
 -- `a32_transfer::landing::arrived` meets its contract, by what its calls ensure.
 use mathlib.Core.Path.{ap, _∙_}
 use borrow.Author.Needs.{needs}
-use Rattle.device.specs.Data.{extended}
+use Rattle.data.specs.Data.{extended}
 use Rattle.a32_transfer.proofs.landing.arrived.Statement.{statement}
 use Rattle.a32_transfer.proofs.landing.arrived.Tie as tie
 

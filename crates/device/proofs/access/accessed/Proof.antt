@@ -11,8 +11,9 @@ use Rattle.exception.specs.State.{registerIn, withRegister}
 use Rattle.step.specs.Step.{stepped}
 use Rattle.device.specs.declared.answer.Answer.the-variants.{Loaded, Stored}
 use Rattle.device.specs.declared.access.Finished.{Finished}
-use Rattle.device.specs.Data.{transferred, extended}
-use Rattle.device.specs.Finish.{bigEndian, stored, loaded, accessed}
+use Rattle.data.specs.Data.{transferred, extended}
+use Rattle.device.specs.Finish.{stored, loaded, accessed}
+use Rattle.data.specs.Data.{bigEndian}
 use Rattle.device.proofs.access.accessed.Statement.{statement}
 use Rattle.device.proofs.access.accessed.Tie as tie
 

@@ -8,14 +8,14 @@ use native.Mathlib.Omega.{arith}
 use denote.Ref.{now}
 use lib.ListN.{length, getD, length-set}
 use Rattle.log_reader.specs.Reader.{lookIn}
-use Rattle.log_rewrite.specs.Inner.{wordIn}
+use Rattle.log_rewrite.specs.Inner.{entryWord}
 use Rattle.log_rewrite.proofs.Given.{one-more}
 use Rattle.log_rewrite.proofs.entries.words.Statement.{statement}
 use Rattle.log_rewrite.proofs.entries.words.Tie as tie
 
 abbrev Inv-loop : tie.InvT-loop
 Inv-loop log passed second out₀ i₀ out i =
-    (length out ≡ length out₀) × ((k : ℕ) → k < i → getD out k 0 ≡ wordIn (lookIn log passed k .entry) second)
+    (length out ≡ length out₀) × ((k : ℕ) → k < i → getD out k 0 ≡ entryWord (lookIn log passed k .entry) second)
 
 abbrev μ-loop : tie.MeasureT-loop
 μ-loop log passed second out₀ i₀ out i = length out₀ - i

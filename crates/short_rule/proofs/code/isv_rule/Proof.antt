@@ -6,7 +6,8 @@ use mathlib.Core.Bool.{Bool, true, cond, not, _||_}
 use Prim.Native.Nat.{ℕ}
 use Rattle.edition.specs.Feature.{ras}
 use Rattle.short_rule.specs.Edition.{editions, maskOf}
-use Rattle.iss.specs.Rule.{between, mmuFault, isvCode}
+use Rattle.iss.specs.Rule.{mmuFault, isvCode}
+use Rattle.bits.specs.Test.{between}
 use Rattle.fault_code.proofs.Masks.{mask-isv}
 use Rattle.short_rule.proofs.code.isv_rule.Statement.{statement}
 use Rattle.short_rule.proofs.code.isv_rule.Tie as tie
