@@ -29,36 +29,33 @@ use Rattle.act.specs.declared.Action.{Action}
 use Rattle.act.specs.declared.Acted.{Acted}
 use Rattle.act.specs.Acting.{Acting, outcomeNumber}
 
-abbrev number : Acted → ℕ
-number r = outcomeNumber (r .outcome)
-
 abbrev state : Acted → Guest
 state r = r .state
 
-pub refused-untouched : (s : Guest) (a : Action) (r : Acted) → Acting s a r → (number r ≡ 0 → ⊥) → r .state ≡ s
+pub refused-untouched : (s : Guest) (a : Action) (r : Acted) → Acting s a r → (outcomeNumber (r .outcome) ≡ 0 → ⊥) → r .state ≡ s
 unfolding injected returned
 refused-untouched s (Action.Inject i) r p n =
     ap state (p .2) ∙ ap (λ (x : Injected). x .state) (p .1 .answer)
     ∙ injections.refused-untouched s i
-    (λ e. n (ap number (p .2) ∙ ap (λ (x : Injected). guest.answerNumber (x .answer)) (p .1 .answer) ∙ ap guest.answerNumber e))
+    (λ e. n (ap (λ (x : Acted). outcomeNumber (x .outcome)) (p .2) ∙ ap (λ (x : Injected). guest.answerNumber (x .answer)) (p .1 .answer) ∙ ap guest.answerNumber e))
 refused-untouched s (Action.Deliver q) r p n =
     ap state (p .2) ∙ ap (λ (x : Step Guest). x .state) (p .1 .answer)
     ∙ unmoved guestDelivery (listOf q) s
-    (λ k e. n (ap number (p .2) ∙ same-number (p .0 .outcome .answer)
+    (λ k e. n (ap (λ (x : Acted). outcomeNumber (x .outcome)) (p .2) ∙ same-number (p .0 .outcome .answer)
     ∙ ap (λ (x : Step Guest). plain.answerNumber (x .answer)) (p .1 .answer) ∙ ap plain.answerNumber e)) .1
 refused-untouched s (Action.Resume c) r p n =
     ap state (p .2) ∙ ap (λ (x : Resumed). x .state) (p .1 .answer)
     ∙ returns.refused-untouched s c
-    (λ e. n (ap number (p .2) ∙ ap (λ (x : Resumed). resume.answerNumber (x .answer)) (p .1 .answer) ∙ ap resume.answerNumber e))
+    (λ e. n (ap (λ (x : Acted). outcomeNumber (x .outcome)) (p .2) ∙ ap (λ (x : Resumed). resume.answerNumber (x .answer)) (p .1 .answer) ∙ ap resume.answerNumber e))
 refused-untouched s (Action.StepOver w) r p n =
     ap state (p .2) ∙ ap (λ (x : SteppedOver). x .state) (p .1 .answer)
     ∙ steps.refused-untouched s w
-    (λ e. n (ap number (p .2) ∙ ap (λ (x : SteppedOver). stepNumber (x .answer)) (p .1 .answer) ∙ e))
+    (λ e. n (ap (λ (x : Acted). outcomeNumber (x .outcome)) (p .2) ∙ ap (λ (x : SteppedOver). stepNumber (x .answer)) (p .1 .answer) ∙ e))
 refused-untouched s (Action.Finish w v) r p n =
     ap state (p .2) ∙ ap (λ (x : Finished). x .state) (p .1 .answer)
     ∙ accesses.refused-untouched s w v
-    (λ e. n (ap number (p .2) ∙ ap (λ (x : Finished). accessNumber (x .answer)) (p .1 .answer) ∙ e))
+    (λ e. n (ap (λ (x : Acted). outcomeNumber (x .outcome)) (p .2) ∙ ap (λ (x : Finished). accessNumber (x .answer)) (p .1 .answer) ∙ e))
 refused-untouched s (Action.Coprocessor w a b) r p n =
     ap state (p .2) ∙ ap (λ (x : transfer.Finished). x .state) (p .1 .answer)
     ∙ transfers.refused-untouched s w a b
-    (λ e. n (ap number (p .2) ∙ ap (λ (x : transfer.Finished). transferNumber (x .answer)) (p .1 .answer) ∙ e))
+    (λ e. n (ap (λ (x : Acted). outcomeNumber (x .outcome)) (p .2) ∙ ap (λ (x : transfer.Finished). transferNumber (x .answer)) (p .1 .answer) ∙ e))
