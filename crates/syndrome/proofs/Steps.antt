@@ -16,7 +16,7 @@ use Rattle.edition.proofs.Judgement.{judge-taken}
 use Rattle.form.specs.Call.{callOf}
 use Rattle.form.specs.Form as Form
 use Rattle.form.proofs.Shows.{again-given, again-refused, carried-given, carried-refused}
-use Rattle.form.proofs.Verdicts.{made-mask, verdictOf, call-verdict}
+use Rattle.form.proofs.Verdicts.{verdictOf, call-verdict}
 use Rattle.layout.specs.Fields.{fieldsOf, recordWord}
 use Rattle.record.specs.Split.{recordAt}
 use Rattle.record.specs.declared.origin.Origin.{Origin}
@@ -90,12 +90,6 @@ module _ (o : Origin) where
         unfolding writeOf maskOf
         write-judged l =
             ap asWritten (call-verdict editions (λ x. has o x r) (writeTests o r) e (recordWord r) k (w, (l, tt)))
-
-  -- the editions that have a record which makes the word, by the word that is put together
-  pub makes-mask : (r : Record) (w : ℕ) → cond (eqb (joinedFrom 0 (fieldsOf r)) w) (editionsOf o r) 0 ≡ maskOf (λ e. makes o e r w)
-  unfolding maskOf
-  makes-mask r w = made-mask editions (λ e. has o e r) (joinedFrom 0 (fieldsOf r)) (recordWord r) w
-      (λ e h. joined-record r (has-fits o e r h))
 
   -- a record that an edition takes is put together into its word
   pub joined-taken : (e : ℕ) (r : Record) → isEdition e ≡ true → judgeOf e (editionsOf o r) ≡ Verdict.Taken

@@ -13,6 +13,7 @@ ghost use Rattle.syndrome.specs.Writing.{Writing};
 ghost use Rattle.syndrome.specs.Carry.{Carrying, Rewriting};
 
 mod answer;
+mod whole;
 
 pub use answer::Carried;
 pub use answer::Read;
@@ -22,6 +23,7 @@ use edition::Verdict;
 use record::Origin;
 use record::Record;
 use registers::Esr;
+use whole::whole;
 
 // The editions that have the record at the word's bits, where the word's class and IL are right: none where some bit of the word is not the
 // record's.
@@ -29,7 +31,7 @@ fn word_editions(origin: Origin, r: Record, word: u64) -> u32
     requires { ⌜ (r ≡ recordAt word) × (classKnown origin word ≡ true) × (wordIl origin word ≡ true) ⌝ }
     ensures { λ m. ⌜ m ≡ maskOf (λ e. makes origin e r word) ⌝ }
 {
-    if layout::joined(r) == word {
+    if whole(r, word) {
         rule::allowed(origin, r)
     } else {
         0
