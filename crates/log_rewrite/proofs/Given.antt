@@ -12,7 +12,7 @@ use lib.ListN.{length, take, drop, getD, set, length-drop}
 use lib.Seq.{drop-drop, ext-getD, getD-take, getD-set-same, getD-set-other, length-take-le}
 use Rattle.log_section.specs.Number.{number}
 use Rattle.log_section.specs.Section.{injectionSize, sizes, endOf, restAfter, countAfter}
-use Rattle.log_section.specs.Log.{Address, nowhere, byteIn, entryWord as wordAt, pairIn, injectionIn, injectionByte, domainOf, entriesIn, entriesOf}
+use Rattle.log_section.specs.Log.{Address, nowhere, byteIn, bytesWord as wordAt, pairIn, injectionIn, injectionByte, domainOf, entriesIn, entriesOf}
 use Rattle.log_section.specs.Log.{bodyAfter}
 use Rattle.log.specs.Answer.{numberOf, readOf}
 use Rattle.log_section.specs.Look.{sectionAt, startAfter}

@@ -19,8 +19,8 @@ section-in-requires c κs = search needs
 cast-t7 : tie.Need-cast-t7
 cast-t7 c = search needs
 
-number-of-requires : tie.Need-number-of-requires
-number-of-requires c κs = search needs
+number-requires : tie.Need-number-requires
+number-requires c κs = search needs
 
 returns : tie.Need-returns
 returns c =
@@ -28,7 +28,7 @@ returns c =
     let same = gone .before .read-in .ensures .answer in
     let past = gone .gone-in .ensures ∙ ap goneIn same in
     let section = c .before .before .section-in .ensures ∙ ap sectionIn same in
-    record { answer = c .number-of .ensures ∙ ap numberOf same; words = λ i. past i ∷ section i ∷ [] }
+    record { answer = c .number .ensures ∙ ap numberOf same; words = λ i. past i ∷ section i ∷ [] }
 
 pub knucklepin-log-read-spec : {M : Type 1} → statement M
 knucklepin-log-read-spec =
@@ -38,5 +38,5 @@ knucklepin-log-read-spec =
     gone-in-requires
     section-in-requires
     cast-t7
-    number-of-requires
+    number-requires
     returns)

@@ -28,15 +28,15 @@ write-raw-requires c κs = search needs
 length-in-requires : tie.Need-length-in-requires
 length-in-requires c κs = search needs
 
-number-of-requires : tie.Need-number-of-requires
-number-of-requires c κs = search needs
+number-requires : tie.Need-number-requires
+number-requires c κs = search needs
 
 same-length : tie.Need-same-length
 same-length c = search needs
 
 returns : tie.Need-returns
-returns c = told _ _ _ (c .before .before .before .before .write-raw .ensures) (c .number-of .ensures) (c .before .length-in .ensures)
+returns c = told _ _ _ (c .before .before .before .before .write-raw .ensures) (c .number .ensures) (c .before .length-in .ensures)
 
 pub knucklepin-log-write-raw-spec : {M : Type 1} → statement M
 knucklepin-log-write-raw-spec =
-    tie.close (tie.spec write-raw-requires length-in-requires number-of-requires same-length returns)
+    tie.close (tie.spec write-raw-requires length-in-requires number-requires same-length returns)

@@ -11,8 +11,8 @@ use Rattle.log_pieces.proofs.first_lines.Tie as tie
 read-line-requires : tie.Need-read-line-requires
 read-line-requires c κs = search needs
 
-number-of-requires : tie.Need-number-of-requires
-number-of-requires c κs = search needs
+number-requires : tie.Need-number-requires
+number-requires c κs = search needs
 
 slice-aggregate-append : tie.Need-slice-aggregate-append
 slice-aggregate-append c = search needs
@@ -29,7 +29,7 @@ returns c =
     let tested = last .before .before .before in
     let line = tested .before .before .before .before in
     let answer = line .before .before .before .args .answer in
-    rw (eq-eqb (numberOf answer) 13 (sym (tested .before .number-of .ensures) ∙ tested .if1 .taken))
+    rw (eq-eqb (numberOf answer) 13 (sym (tested .before .number .ensures) ∙ tested .if1 .taken))
     (appends-both (line .read-line .ensures) (last .append .ensures))
 
 same-length-2 : tie.Need-same-length-2
@@ -39,7 +39,7 @@ returns-2 : tie.Need-returns-2
 returns-2 c =
     let line = c .before .before .before .before in
     let answer = line .before .before .before .args .answer in
-    rw (ne-eqb (numberOf answer) 13 (λ e. c .if1 .left (c .before .number-of .ensures ∙ e)))
+    rw (ne-eqb (numberOf answer) 13 (λ e. c .if1 .left (c .before .number .ensures ∙ e)))
     (appends-both (line .read-line .ensures) (appends-none _ _))
 
 pub first-lines-spec : {M : Type 1} → statement M
@@ -47,7 +47,7 @@ first-lines-spec =
     tie.close
     (tie.spec
     read-line-requires
-    number-of-requires
+    number-requires
     slice-aggregate-append
     append-requires
     same-length

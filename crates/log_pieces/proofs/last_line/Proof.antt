@@ -20,14 +20,14 @@ use Rattle.log_pieces.proofs.last_line.Tie as tie
 read-in-requires : tie.Need-read-in-requires
 read-in-requires c κs = search needs
 
-number-of-requires : tie.Need-number-of-requires
-number-of-requires c κs = search needs
+number-requires : tie.Need-number-requires
+number-requires c κs = search needs
 
 returns : tie.Need-returns
 returns c =
     let read = c .before .before in
     let s = now (read .before .before .before .args .log) in
-    let number = c .before .number-of .ensures ∙ ap numberOf (read .read-in .ensures .answer) in
+    let number = c .before .number .ensures ∙ ap numberOf (read .read-in .ensures .answer) in
     rw (ne-eqb (numberOf (readOf s)) 13 (λ e. c .if1 .taken (number ∙ e))) (appends-none _ _)
 
 section-in-requires : tie.Need-section-in-requires
@@ -40,7 +40,7 @@ sub-cut-after c =
     let read = tested .before .before in
     let s = now (read .before .before .before .args .log) in
     let answer = read .read-in .ensures .answer in
-    let number = tested .before .number-of .ensures ∙ ap numberOf answer in
+    let number = tested .before .number .ensures ∙ ap numberOf answer in
     let section : named .section-in .result ≡ sectionIn (readOf s) = named .section-in .ensures ∙ ap sectionIn answer in
     omega (arith, section-named s (sym number ∙ tested .if1 .left) .0)
 
@@ -62,7 +62,7 @@ returns-2 c =
     let read = tested .before .before in
     let s = now (read .before .before .before .args .log) in
     let answer = read .read-in .ensures .answer in
-    let number = tested .before .number-of .ensures ∙ ap numberOf answer in
+    let number = tested .before .number .ensures ∙ ap numberOf answer in
     let section : named .section-in .result ≡ sectionIn (readOf s) = named .section-in .ensures ∙ ap sectionIn answer in
     same-text
     (ap (cutText (named .section-in .result)) (cut .cut-after .ensures) ∙ ap (cutIn s) section
@@ -75,7 +75,7 @@ last-line-spec =
     tie.close
     (tie.spec
     read-in-requires
-    number-of-requires
+    number-requires
     returns
     section-in-requires
     sub-cut-after

@@ -13,12 +13,12 @@ use Rattle.log_rewrite.proofs.rewrite.Tie as tie
 read-requires : tie.Need-read-requires
 read-requires c κs = search needs
 
-number-of-requires : tie.Need-number-of-requires
-number-of-requires c κs = search needs
+number-requires : tie.Need-number-requires
+number-requires c κs = search needs
 
 -- the number that was tested is that of the definition
-told : (c : tie.After-number-of) → c .number-of .result ≡ numberOf (readOf (now (c .before .before .before .before .args .log)))
-told c = c .number-of .ensures ∙ ap numberOf (c .before .read .ensures .answer)
+told : (c : tie.After-number) → c .number .result ≡ numberOf (readOf (now (c .before .before .before .before .args .log)))
+told c = c .number .ensures ∙ ap numberOf (c .before .read .ensures .answer)
 
 returns : tie.Need-returns
 returns c =
@@ -48,4 +48,4 @@ returns-2 c =
 pub rewrite-spec : {M : Type 1} → statement M
 rewrite-spec =
     tie.close
-    (tie.spec read-requires number-of-requires returns written-requires same-length returns-2)
+    (tie.spec read-requires number-requires returns written-requires same-length returns-2)

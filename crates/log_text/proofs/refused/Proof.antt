@@ -11,8 +11,8 @@ slice-aggregate-append c = search needs
 append-requires : tie.Need-append-requires
 append-requires c κs = search needs
 
-number-of-requires : tie.Need-number-of-requires
-number-of-requires c κs = search needs
+number-requires : tie.Need-number-requires
+number-requires c κs = search needs
 
 cast-decimal-field : tie.Need-cast-decimal-field
 cast-decimal-field c = search needs
@@ -42,7 +42,7 @@ returns : tie.Need-returns
 returns c =
     appends-both (appends-both (appends-both (c .before .before .before .before .before .before .before .before .before .before .before
     .before .before .before .before .before .before .append .ensures)
-    (rw (c .before .before .before .before .before .before .before .before .before .before .before .before .before .number-of .ensures) at
+    (rw (c .before .before .before .before .before .before .before .before .before .before .before .before .before .number .ensures) at
     (c .before .before .before .before .before .before .before .before .before .before .before .before .decimal-field .ensures)))
     (rw (c .before .before .before .before .before .before .before .before .section-in .ensures) at
     (c .before .before .before .before .before .before .before .decimal-field2 .ensures))) (c .before .before .append2 .ensures)
@@ -53,7 +53,7 @@ refused-spec =
     (tie.spec
     slice-aggregate-append
     append-requires
-    number-of-requires
+    number-requires
     cast-decimal-field
     decimal-field-requires
     section-in-requires
