@@ -23,7 +23,7 @@ use Rattle.exception.specs.State.{registerIn, withRegister}
 use Rattle.rule.specs.Has.{lawful, has}
 use Rattle.step.specs.Over.{had}
 use Rattle.step.specs.Step.{stepped}
-use Rattle.data.specs.Data.{transferred, extended}
+use Rattle.data.specs.Data.{bigEndian, transferred, extended}
 use Rattle.device.specs.Finish as device
 use Rattle.device.specs.declared.answer.Answer.the-variants as device-answer
 use Rattle.device.specs.declared.access.Finished.{Finished as DeviceFinished}
@@ -72,7 +72,7 @@ module _ (s : Guest) (w : ℕ) (f : Fields) (t : ℕ) (r : DataAbort) (values : 
   mode = modeOf (s .status)
 
   abbrev big : Bool
-  big = device.bigEndian (s .status)
+  big = bigEndian (s .status)
 
   abbrev shape : Shape
   shape = shapeOf f

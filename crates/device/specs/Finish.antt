@@ -3,7 +3,6 @@ use Prim.Native.Nat.{ℕ}
 use mathlib.Core.Bool.{Bool, true, false, cond}
 use mathlib.Core.List.{List, [], _∷_}
 use Rattle.bits.specs.Decide.{Test, needs, decide}
-use Rattle.bits.specs.Field.{bitOf}
 use Rattle.record.specs.declared.kinds.DataAbort.{DataAbort}
 use Rattle.record.specs.Sort.{sortOf}
 use Rattle.record.specs.declared.kinds.Record.{Record}
@@ -18,7 +17,7 @@ use Rattle.device.specs.declared.answer.Answer.the-variants.{Loaded, Sto
 use Rattle.device.specs.declared.access.Described.{Described}
 use Rattle.device.specs.declared.access.Described.the-variants.{Access, Nothing}
 use Rattle.device.specs.declared.access.Finished.{Finished}
-use Rattle.data.specs.Data.{transferred, extended}
+use Rattle.data.specs.Data.{bigEndian, transferred, extended}
 
 -- ---- the tests
 
