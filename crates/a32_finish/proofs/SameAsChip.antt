@@ -15,7 +15,7 @@ use Rattle.record.specs.declared.kinds.DataAbort.{DataAbort}
 use Rattle.record.specs.declared.kinds.Record.{Record}
 use Rattle.status.specs.declared.Held.{Held}
 use Rattle.status.specs.Mode.{isMode}
-use Rattle.status.specs.Register.{numberIn, heldIn}
+use Rattle.status.specs.Register.{registerNumber, heldIn}
 use Rattle.status.specs.Sound.{sound}
 use Rattle.status.proofs.Again.{is-sound}
 use Rattle.exception.specs.declared.state.Guest.{Guest}
@@ -61,7 +61,7 @@ pub record Tells (s : Guest) (f : Fields) (t : ℕ) (r : DataAbort) : Type 0 whe
   pub isv : r .isv ≡ true
   pub sas : r .sas ≡ shapeOf f .sas
   pub sse : r .sse ≡ shapeOf f .sse
-  pub srt : r .srt ≡ numberIn (modeOf (s .status)) t
+  pub srt : r .srt ≡ registerNumber (modeOf (s .status)) t
   pub wnr : r .wnr ≡ not (shapeOf f .load)
   pub il : r .il ≡ true
 
@@ -96,7 +96,7 @@ module _ (s : Guest) (w : ℕ) (f : Fields) (t : ℕ) (r : DataAbort) (values : 
   -- where the register stands
   held : heldIn mode t ≡ Held.Register (r .srt)
   held =
-      ap₂ (λ (a b : Bool). cond (a && b) (Held.Register (numberIn mode t)) Held.Nowhere) (is-sound (s .marks) (s .status) good .mode)
+      ap₂ (λ (a b : Bool). cond (a && b) (Held.Register (registerNumber mode t)) Held.Nowhere) (is-sound (s .marks) (s .status) good .mode)
       (le-leb t 14 (one .below))
       ∙ ap Held.Register (sym (tells .srt))
 
@@ -250,7 +250,7 @@ sampleRecord load =
 pub same-asked : (load : Bool) → One (sample load) 2 × Tells userState (sample load) 2 (sampleRecord load)
     × (describedAnswer userState (fieldsWord (sample load)) ≡ described.Taken (accessOf userState (sample load)))
     × (had (Record.DataAbort (sampleRecord load)) ≡ true)
-unfolding registersOf numberIn sound isMode legal maskOf has lawful
+unfolding registersOf registerNumber sound isMode legal maskOf has lawful
 same-asked true = (
   record { registers = refl; stays = refl; below = omega arith },
   record { isv = refl; sas = refl; sse = refl; srt = refl; wnr = refl; il = refl },

@@ -7,7 +7,7 @@ use mathlib.Core.List.{List, [], _∷_}
 use lib.Dec.{eqb}
 use Rattle.record.specs.declared.origin.Origin.{Origin}
 use Rattle.record_words.specs.Words.{zeros, wordsOf}
-use Rattle.syndrome.specs.Answer.{readNumbers, writtenNumbers}
+use Rattle.syndrome.specs.Answer.{readSaid, writtenSaid}
 use Rattle.syndrome.specs.declared.answer.Read.{Read}
 use Rattle.syndrome.specs.declared.answer.Written.{Written}
 
@@ -21,15 +21,15 @@ recordRead (Read.Refused refusal) = zeros 16
 
 -- `w` is the record, and `e` the mask and the count
 pub record ReadWords (a : Read) (n : ℕ) (w e : List ℕ) : Type 0 where
-  pub answer : n ≡ readNumbers .number a
+  pub answer : n ≡ readSaid .number a
   pub words : w ≡ recordRead a
-  pub editions : e ≡ readNumbers .mask a ∷ readNumbers .count a ∷ []
+  pub editions : e ≡ readSaid .mask a ∷ readSaid .count a ∷ []
 
 abbrev pub wordWritten : Written → ℕ
 wordWritten (Written.Word esr) = esr .0
 wordWritten (Written.Refused refusal) = 0
 
 pub record WrittenWords (a : Written) (n esr : ℕ) (e : List ℕ) : Type 0 where
-  pub answer : n ≡ writtenNumbers .number a
+  pub answer : n ≡ writtenSaid .number a
   pub word : esr ≡ wordWritten a
-  pub editions : e ≡ writtenNumbers .mask a ∷ writtenNumbers .count a ∷ []
+  pub editions : e ≡ writtenSaid .mask a ∷ writtenSaid .count a ∷ []

@@ -16,7 +16,7 @@ use Rattle.reason.proofs.Exact.{ruleNumbers, why-number, none-broken}
 use Rattle.record.specs.declared.origin.Origin.{Origin}
 use Rattle.registers.specs.declared.Esr.{Esr}
 use Rattle.refusal_text.proofs.Why.{told}
-use Rattle.syndrome.specs.Answer.{readNumbers}
+use Rattle.syndrome.specs.Answer.{readSaid}
 use Rattle.syndrome.specs.Reading.{hasWord, readOf}
 use Rattle.syndrome.specs.declared.answer.Read.{Read}
 use Rattle.syndrome.proofs.Refusals.{read-refused-exactly}
@@ -25,7 +25,7 @@ pub rule-named : (e : ℕ) (esr : Esr) → readOf Origin.AArch32 e esr ≡ Read.
 unfolding Form.hasWord
 rule-named e esr is why =
     let w = esr .0 in
-    let five = read-refused-exactly Origin.AArch32 e esr 5 .0 (ap (readNumbers .number) is) in
+    let five = read-refused-exactly Origin.AArch32 e esr 5 .0 (ap (readSaid .number) is) in
     let had = none-broken w (five .1 .1 .0) (five .1 .1 .1 .0) why in
     let none : maskBelow 16 (λ x. hasWord Origin.AArch32 x w) ≡ 0 =
     eqb-true (maskBelow 16 (λ x. hasWord Origin.AArch32 x w)) 0 (not-false _ (five .1 .1 .1 .1)) in

@@ -3,7 +3,7 @@ use Prim.Native.Nat.{ℕ, _+_, _-_, _*_, _^_}
 use Rattle.edition.specs.Judge.{refusalNumber, refusalMask, refusalCount}
 use Rattle.edition.specs.declared.Refusal.{Refusal}
 use Rattle.record.specs.declared.origin.Origin.{Origin}
-use Rattle.syndrome.specs.Answer.{readNumbers}
+use Rattle.syndrome.specs.Answer.{readSaid}
 use Rattle.syndrome.specs.Reading.{readOf}
 use Rattle.syndrome.specs.Writing.{writeOf}
 use Rattle.syndrome.specs.declared.answer.Read.{Read}
@@ -14,7 +14,7 @@ abbrev pub packedRefusal : Refusal → ℕ
 packedRefusal f = refusalNumber f + refusalMask f * 2 ^ 8 + refusalCount f * 2 ^ 24
 
 abbrev pub packedAnswer : Read → ℕ
-packedAnswer a = readNumbers .number a + readNumbers .mask a * 2 ^ 8 + readNumbers .count a * 2 ^ 24
+packedAnswer a = readSaid .number a + readSaid .mask a * 2 ^ 8 + readSaid .count a * 2 ^ 24
 
 abbrev pub packedRead : Origin → ℕ → ℕ → ℕ
 packedRead o e w = packedAnswer (readOf o e (record { 0 = w }))

@@ -1,6 +1,6 @@
 -- The answers of the short form's reader and writer as single numbers.
 use Prim.Native.Nat.{ℕ, _+_, _-_, _*_, _^_}
-use Rattle.short.specs.Answer.{readNumbers}
+use Rattle.short.specs.Answer.{readSaid}
 use Rattle.short.specs.Reading.{readOf}
 use Rattle.short.specs.Writing.{writeOf}
 use Rattle.short.specs.declared.answer.Read.{Read}
@@ -8,7 +8,7 @@ use Rattle.short.specs.declared.answer.Written.{Written}
 
 -- the answer's number, from bit 8 its mask, from bit 24 its number of ones
 abbrev pub packedShort : Read → ℕ
-packedShort a = readNumbers .number a + readNumbers .mask a * 2 ^ 8 + readNumbers .count a * 2 ^ 24
+packedShort a = readSaid .number a + readSaid .mask a * 2 ^ 8 + readSaid .count a * 2 ^ 24
 
 abbrev pub packedShortRead : ℕ → ℕ → ℕ
 packedShortRead e w = packedShort (readOf e (record { 0 = w }))

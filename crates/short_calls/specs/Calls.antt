@@ -6,7 +6,7 @@ use mathlib.Core.List.{List, [], _∷_}
 use Rattle.record_words.specs.Words.{zeros}
 use Rattle.record_words.specs.Words as long
 use Rattle.short_words.specs.Words.{wordsOf}
-use Rattle.short.specs.Answer.{readNumbers, writtenNumbers}
+use Rattle.short.specs.Answer.{readSaid, writtenSaid}
 use Rattle.short.specs.declared.answer.Read.{Read}
 use Rattle.short.specs.declared.answer.Written.{Written}
 use Rattle.widen.specs.Widening.{numberWidened}
@@ -18,18 +18,18 @@ recordRead (Read.Refused refusal) = zeros 16
 
 -- `w` is the record, and `e` the mask and the count
 pub record ReadWords (a : Read) (n : ℕ) (w e : List ℕ) : Type 0 where
-  pub answer : n ≡ readNumbers .number a
+  pub answer : n ≡ readSaid .number a
   pub words : w ≡ recordRead a
-  pub editions : e ≡ readNumbers .mask a ∷ readNumbers .count a ∷ []
+  pub editions : e ≡ readSaid .mask a ∷ readSaid .count a ∷ []
 
 abbrev pub wordWritten : Written → ℕ
 wordWritten (Written.Word hsr) = hsr .0
 wordWritten (Written.Refused refusal) = 0
 
 pub record WrittenWords (a : Written) (n hsr : ℕ) (e : List ℕ) : Type 0 where
-  pub answer : n ≡ writtenNumbers .number a
+  pub answer : n ≡ writtenSaid .number a
   pub word : hsr ≡ wordWritten a
-  pub editions : e ≡ writtenNumbers .mask a ∷ writtenNumbers .count a ∷ []
+  pub editions : e ≡ writtenSaid .mask a ∷ writtenSaid .count a ∷ []
 
 abbrev pub longWords : Widened → List ℕ
 longWords (Widened.Long r) = long.wordsOf r

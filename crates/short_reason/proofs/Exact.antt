@@ -18,7 +18,8 @@ use Rattle.iss.specs.Rule.{externalRule, walkRule, extensionRule, maintenanceRu
 use Rattle.bits.specs.Test.{implies}
 use Rattle.reason.specs.Reason.{someSyndrome}
 use Rattle.reason.proofs.Tests.{numbered, all-passed, of-some-test}
-use Rattle.reason.proofs.Exact.{both, valid-both, add}
+use Rattle.reason.proofs.Exact.{both, valid-both}
+use Rattle.rule.proofs.Heads.{add}
 use Rattle.short_layout.specs.Fields.{fieldsOf, recordWord}
 use Rattle.short_record.specs.Class.{classes, isClass, headOf}
 use Rattle.short_record.specs.Split.{recordOf, recordAt}

@@ -13,7 +13,7 @@ use Rattle.edition.specs.Feature.{ras}
 use Rattle.iss.specs.Rule.{mmuFault, conditionRule, directionRule, addressingRule, passedRule}
 use Rattle.bits.specs.Test.{implies, between}
 use Rattle.iss.specs.Rule.{externalRule, walkRule, extensionRule, maintenanceRule, isvCode}
-use Rattle.reason.proofs.Exact.{add}
+use Rattle.rule.proofs.Heads.{add}
 use Rattle.reason.proofs.Had.{allowed-some, syndrome-some, two, valid-parts, abort-passed}
 use Rattle.short_layout.specs.Fields.{recordWord}
 use Rattle.short_record.specs.Split.{recordAt}

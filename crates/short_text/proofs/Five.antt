@@ -11,7 +11,7 @@ use Rattle.edition.specs.declared.Refusal.the-variants.{NoEdition}
 use Rattle.edition.proofs.Masks.{mask-zero}
 use Rattle.form.specs.Form as Form
 use Rattle.refusal_text.proofs.Why.{told}
-use Rattle.short.specs.Answer.{readNumbers}
+use Rattle.short.specs.Answer.{readSaid}
 use Rattle.short.specs.Reading.{hasWord, readOf}
 use Rattle.short.specs.declared.answer.Read.{Read}
 use Rattle.short.proofs.Refusals.{read-refused-exactly}
@@ -23,7 +23,7 @@ pub rule-named : (e : ℕ) (hsr : Hsr) → readOf e hsr ≡ Read.Refused NoEditi
 unfolding Form.hasWord
 rule-named e hsr is why =
     let w = hsr .0 in
-    let five = read-refused-exactly e hsr 5 .0 (ap (readNumbers .number) is) in
+    let five = read-refused-exactly e hsr 5 .0 (ap (readSaid .number) is) in
     let had = none-broken w (five .1 .0) (five .1 .1 .0) why in
     let none : maskBelow 2 (λ x. hasWord x w) ≡ 0 = eqb-true (maskBelow 2 (λ x. hasWord x w)) 0 (not-false _ (five .1 .1 .1)) in
     true≢false (sym (had .2) ∙ mask-zero 2 (λ x. hasWord x w) none (had .0) (ltb-true (had .0) 2 (had .1)))

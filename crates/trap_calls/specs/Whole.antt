@@ -6,7 +6,7 @@ use Rattle.record.specs.declared.kinds.Record.{Record}
 use Rattle.address.specs.declared.VirtualAddress.{VirtualAddress}
 use Rattle.address.specs.declared.IntermediateAddress.{IntermediateAddress}
 use Rattle.record_words.specs.Words.{zeros, wordsOf}
-use Rattle.trap.specs.Numbers.{answerNumbers}
+use Rattle.trap.specs.Numbers.{answerSaid}
 use Rattle.trap.specs.declared.Answer.{Answer}
 use Rattle.trap.specs.declared.Trap.{Trap}
 
@@ -61,8 +61,8 @@ addressesShown (Answer.Refused refusal) = zeros 2
 
 -- `w` is the record, `k` what is known, `v` the addresses, `e` the mask and the count
 pub record TrapWords (a : Answer) (n : ℕ) (w k v e : List ℕ) : Type 0 where
-  pub answer : n ≡ answerNumbers .number a
+  pub answer : n ≡ answerSaid .number a
   pub words : w ≡ syndromeShown a
   pub known : k ≡ knownShown a
   pub addresses : v ≡ addressesShown a
-  pub editions : e ≡ answerNumbers .mask a ∷ answerNumbers .count a ∷ []
+  pub editions : e ≡ answerSaid .mask a ∷ answerSaid .count a ∷ []
