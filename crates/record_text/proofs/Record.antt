@@ -1,14 +1,12 @@
 -- The lines of a record's word are the lines of the record's fields, by the layout, under their names.
 -- Assumes nothing.
-use mathlib.Core.Path.{_≡_, refl, _∙_, ap, ap₂}
+use mathlib.Core.Path.{_≡_, _∙_, ap, ap₂}
 use mathlib.Core.Bool.{Bool, true}
-use Prim.Native.Nat.{ℕ, zero, suc, _<_}
-use native.Mathlib.Nat.{mod-lt}
-use native.Mathlib.Omega.{arith}
-use lib.Dec.{T, eqb, lit<}
+use Prim.Native.Nat.{ℕ}
+use lib.Dec.{T}
 use Rattle.bits.specs.Field.{fieldOf, bitOf, digit}
 use Rattle.bits.specs.Layout.{fitting}
-use Rattle.bits.proofs.Fields.{AllBack, all-back}
+use Rattle.bits.proofs.Fields.{AllBack, all-back, flag-at}
 use Rattle.field_text.specs.Rows.{shapeText}
 use Rattle.field_text.proofs.Fields.{shape-said}
 use Rattle.layout.specs.Fields.{fieldsOf, recordWord}
@@ -20,14 +18,9 @@ use Rattle.record_text.specs.Text.{recordText}
 use Rattle.record_text.specs.Inner.{shapeOf, wordText}
 use Rattle.record_text.proofs.Shapes.{bitIn, rows-agree}
 
-one-bit : (x : ℕ) → x < 2 → x ≡ digit (eqb x 1)
-one-bit zero h = refl
-one-bit (suc zero) h = refl
-one-bit (suc (suc x)) h = absurd (omega arith)
-
 module _ (w : ℕ) where
   pub own-bit : fieldOf w 24 24 ≡ digit (bitOf w 24)
-  own-bit = one-bit (fieldOf w 24 24) (omega arith)
+  own-bit = flag-at w 24
 
   -- bit 24 of a word that holds a record's fields
   bit-back : (r : Record) → AllBack w (fieldsOf r) → fieldOf w 24 24 ≡ digit (bitIn r (bitOf w 24))
