@@ -21,6 +21,12 @@ pub field-out : (word high low : ℕ) → word < 2 ^ 64 → 64 ≤ low → field
 field-out word high low hw hl =
     ap (λ (n : ℕ). n % 2 ^ widthOf high low) (div-eq-of-lt (lt-of-lt-of-le hw (pow-mono hl))) ∙ zero-mod (2 ^ widthOf high low)
 
+-- a field of one bit
+pub one-bit : (word n : ℕ) → fieldOf word n n ≡ word / 2 ^ n % 2 ^ 1
+one-bit word n =
+    let one : widthOf n n ≡ 1 = omega arith in
+    ap (λ (k : ℕ). word / 2 ^ n % 2 ^ k) one
+
 -- a field is below the power of two of its width
 pub field-below : (word high low k : ℕ) → widthOf high low ≤ k → fieldOf word high low < 2 ^ k
 field-below word high low k h = lt-of-lt-of-le (mod-lt (word / 2 ^ low) (pow-pos (widthOf high low))) (pow-mono h)

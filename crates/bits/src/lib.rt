@@ -57,7 +57,11 @@ pub fn field32(word: u64, high: u32, low: u32) -> u32
 pub fn bit(word: u64, at: u32) -> bool
     ensures { λ r. ⌜ r ≡ bitOf word at ⌝ }
 {
-    field(word, at, at) == 1
+    if at < 64 {
+        (word >> at) & 1 == 1
+    } else {
+        false
+    }
 }
 
 // A value cut to bits high:low of a word, all other bits 0.

@@ -14,8 +14,8 @@ use lib.Bits.{bitAnd, and-block}
 use lib.Count.{ones, onesIn, ones-cat}
 use lib.Dec.{eqb, ltb, lit<}
 use lib.Pow.{pow-pos, pow-mono, pow-add, high, field}
-use Rattle.bits.specs.Field.{widthOf, fieldOf, bitOf, digit}
-use Rattle.bits.proofs.Powers.{shift-by-way}
+use Rattle.bits.specs.Field.{bitOf, digit}
+use Rattle.bits.proofs.Powers.{shift-by-way, one-bit}
 use Rattle.bits.proofs.Fields.{digit-below, digit-back}
 use Rattle.edition.specs.Feature.{editions}
 use Rattle.edition.specs.Mask.{maskBelow, maskOf, countBelow}
@@ -55,12 +55,6 @@ mask-none (suc n) = ap₂ (λ (d m : ℕ). d + m) (zero-mul (2 ^ n)) (mask-none 
 pub mask-when : (n : ℕ) (b : Bool) (p : ℕ → Bool) → cond b (maskBelow n p) 0 ≡ maskBelow n (λ e. b && p e)
 mask-when n true p = refl
 mask-when n false p = sym (mask-none n)
-
--- one bit of a word
-one-bit : (w e : ℕ) → fieldOf w e e ≡ w / 2 ^ e % 2 ^ 1
-one-bit w e =
-    let one : widthOf e e ≡ 1 = omega arith in
-    ap (λ (k : ℕ). w / 2 ^ e % 2 ^ k) one
 
 -- what stands at bit n leaves the bits below it alone
 lower-bit : (d n rest e : ℕ) → e < n → (d * 2 ^ n + rest) / 2 ^ e % 2 ^ 1 ≡ rest / 2 ^ e % 2 ^ 1

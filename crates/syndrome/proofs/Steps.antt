@@ -1,10 +1,9 @@
 -- Reading and writing, one test after the other, as the code makes them.
 -- Assumes nothing.
 use mathlib.Core.Path.{_≡_, ap}
-use mathlib.Core.Bool.{true, false, cond}
+use mathlib.Core.Bool.{true, false}
 use Prim.Native.Nat.{ℕ}
 use borrow.Author.Tests.{ltb-true}
-use lib.Dec.{eqb}
 use Rattle.bits.specs.Inner.{joinedFrom}
 use Rattle.edition.specs.Feature.{editions, isEdition}
 use Rattle.edition.specs.Mask.{maskOf}
