@@ -8,7 +8,7 @@ use bits::field32;
 use exception::Guest;
 use status::{sound, t32};
 
-#[derive(Drop)]
+#[derive(Clone, Copy)]
 pub enum Answer {
     Taken(Access),
     // 9: the status word's mode, or a bit of its 24:21, is wrong.
@@ -32,7 +32,7 @@ pub fn number(answer: Answer) -> u32
 }
 
 // The answer, with the registers in transfer order: as many as the access counts, and 0 after them.
-#[derive(Drop)]
+#[derive(Clone, Copy)]
 pub struct Described {
     pub answer: Answer,
     pub registers: [u32; 16],

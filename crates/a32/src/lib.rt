@@ -1,4 +1,6 @@
 // A32 loads and stores that the chip doesn't describe (ISV 0): what an instruction does in a guest's state.
+#![tactic(auto)]
+
 mod instruction;
 
 pub use instruction::{Answer, Described, describe, number};

@@ -10,7 +10,7 @@ use a32_fields::Fields;
 use signed::Signed;
 
 // The instruction's fields, the number of its registers, the first address, and the change of the base.
-#[derive(Drop)]
+#[derive(Clone, Copy)]
 pub struct Access {
     pub fields: Fields,
     pub count: u32,

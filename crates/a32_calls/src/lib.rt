@@ -1,4 +1,6 @@
 // A32 loads and stores that the chip doesn't describe (ISV 0), for other languages: described and finished in a state of 48 words.
+#![tactic(auto)]
+
 ghost use Rattle.std.specs.Prelude.{◌≡◌};
 ghost use Rattle.state_words.specs.Words.{state_of};
 ghost use Rattle.a32_calls.specs.Calls.{access_told, DescribedWords, transfer_told, FinishedWords};

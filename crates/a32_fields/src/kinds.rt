@@ -2,7 +2,7 @@
 // the writer can refuse them.
 
 // What is transferred, and which way.
-#[derive(Drop)]
+#[derive(Clone, Copy)]
 pub enum Transfer {
     Ldr,
     Str,
@@ -17,14 +17,14 @@ pub enum Transfer {
 }
 
 // A transfer's own bits: of a word or an unsigned byte B (22) and L (20), of every other bits 6, 5 and L.
-#[derive(Drop)]
+#[derive(Clone, Copy)]
 pub enum Code {
     Word { b: bool, l: bool },
     Extra { s: bool, h: bool, l: bool },
 }
 
 // Base Rn and an immediate offset, which U adds or subtracts. P and W choose offset, pre-indexed or post-indexed addressing.
-#[derive(Drop)]
+#[derive(Clone, Copy)]
 pub struct Immediate {
     pub transfer: Transfer,
     pub cond: u32,
@@ -37,7 +37,7 @@ pub struct Immediate {
 }
 
 // The same with the offset in register Rm.
-#[derive(Drop)]
+#[derive(Clone, Copy)]
 pub struct Register {
     pub transfer: Transfer,
     pub cond: u32,
@@ -50,7 +50,7 @@ pub struct Register {
 }
 
 // A load at an offset from the instruction itself.
-#[derive(Drop)]
+#[derive(Clone, Copy)]
 pub struct Literal {
     pub transfer: Transfer,
     pub cond: u32,
@@ -60,7 +60,7 @@ pub struct Literal {
 }
 
 // LDM or STM: bit n of the list stands for register n. P and U are the mode: 00 DA, 01 IA, 10 DB, 11 IB.
-#[derive(Drop)]
+#[derive(Clone, Copy)]
 pub struct Multiple {
     pub load: bool,
     pub cond: u32,
@@ -71,7 +71,7 @@ pub struct Multiple {
     pub list: u32,
 }
 
-#[derive(Drop)]
+#[derive(Clone, Copy)]
 pub enum Fields {
     Immediate(Immediate),
     Register(Register),

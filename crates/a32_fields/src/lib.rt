@@ -1,4 +1,6 @@
 // The fields of A32 loads and stores: their layouts, and what a word's bits hold. Nothing is judged here.
+#![tactic(auto)]
+
 mod join;
 mod kinds;
 mod split;

@@ -5,7 +5,7 @@ ghost use Rattle.a32_finish.specs.Answer.{finish_number};
 use a32_access::Access;
 use exception::Guest;
 
-#[derive(Drop)]
+#[derive(Clone, Copy)]
 pub enum Answer {
     // A load: its registers have the device's values.
     Loaded(Access),
@@ -21,14 +21,14 @@ pub enum Answer {
 
 // The answer, with the address of each transfer and what a store gives the device there, in transfer order: as many as the access counts,
 // and 0 after them. A load gives nothing.
-#[derive(Drop)]
+#[derive(Clone, Copy)]
 pub struct Outcome {
     pub answer: Answer,
     pub addresses: [u32; 16],
     pub values: [u32; 16],
 }
 
-#[derive(Drop)]
+#[derive(Clone, Copy)]
 pub struct Finished {
     pub outcome: Outcome,
     pub state: Guest,

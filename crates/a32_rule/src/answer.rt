@@ -5,14 +5,14 @@ use super::legality::legal;
 use a32_fields::{Fields, fields_at, joined};
 
 // Refused with number 19: the word is none of these forms, or its decoding is UNPREDICTABLE.
-#[derive(Drop)]
+#[derive(Clone, Copy)]
 pub enum Decoded {
     Taken(Fields),
     Refused,
 }
 
 // Refused with number 19: no such word has these fields.
-#[derive(Drop)]
+#[derive(Clone, Copy)]
 pub enum Encoded {
     Word(u32),
     Refused,

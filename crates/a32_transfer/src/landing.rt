@@ -11,13 +11,13 @@ use signed::sum;
 use status::{Held, held_in};
 
 // Where the guest goes on: at the next instruction, or where a load of register 15 says.
-#[derive(Drop)]
+#[derive(Clone, Copy)]
 pub enum Next {
     After,
     Branch(u32),
 }
 
-#[derive(Drop)]
+#[derive(Clone, Copy)]
 pub struct Landing {
     pub regs: [u32; 31],
     pub next: Next,

@@ -5,7 +5,7 @@ ghost use Rattle.a32_transfer.specs.Shape.{moves, transfer_shape, shape_of};
 use a32_fields::{Fields, Transfer};
 
 // Whether memory is read, how wide a transfer is (SAS: 0 a byte, 1 a halfword, 2 a word), and whether a load is extended by its sign (SSE).
-#[derive(Drop)]
+#[derive(Clone, Copy)]
 pub struct Shape {
     pub load: bool,
     pub sas: u32,

@@ -1,4 +1,6 @@
 // A32 loads and stores as words: the number of a form, and what an access does as sixteen words.
+#![tactic(auto)]
+
 ghost use Rattle.std.specs.Prelude.{◌≡◌};
 ghost use Rattle.a32_words.specs.Words.{transfer_number, form_number, immediate_after, register_after, literal_after, multiple_after};
 ghost use Rattle.a32_words.specs.Words.{fields_after, shape_words, access_words};

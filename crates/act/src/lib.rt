@@ -1,4 +1,6 @@
 // Every action on a guest's state, as one call by value.
+#![tactic(auto)]
+
 ghost use Rattle.std.specs.Prelude.{◌≡◌};
 ghost use Rattle.act.specs.declared.Outcome.{Outcome};
 ghost use Rattle.act.specs.Acting.{Acting, outcome_number};
@@ -12,7 +14,7 @@ use resume::resume;
 use signed::Signed;
 use step::step_over;
 
-#[derive(Drop)]
+#[derive(Clone, Copy)]
 pub enum Action {
     Inject(Injection),
     Deliver(Queue),
@@ -23,7 +25,7 @@ pub enum Action {
 }
 
 // What each action answers.
-#[derive(Drop)]
+#[derive(Clone, Copy)]
 pub enum Outcome {
     Injected(guest::Answer),
     Delivered(delivery::Outcome),
@@ -33,7 +35,7 @@ pub enum Outcome {
     Coprocessor(coprocessor::Answer),
 }
 
-#[derive(Drop)]
+#[derive(Clone, Copy)]
 pub struct Acted {
     pub outcome: Outcome,
     pub state: Guest,

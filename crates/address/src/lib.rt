@@ -1,6 +1,8 @@
 // The two address registers: which of them a record makes known, what they may hold, and the addresses that they give.
 //
 // A register that isn't known is not looked at, whatever it holds.
+#![tactic(auto)]
+
 ghost use Rattle.std.specs.Prelude.{◌≡◌, ◌+◌};
 ghost use Rattle.address.specs.Known.{virtual_known, intermediate_known, far_counts, hpfar_counts};
 ghost use Rattle.address.specs.Page.{page_top, hpfar_rule, far_rule, page_address};
@@ -10,14 +12,14 @@ use bits::field;
 use record::{Addresses, Origin};
 use registers::{Far, Hpfar};
 
-#[derive(Drop)]
+#[derive(Clone, Copy)]
 pub enum VirtualAddress {
     Known(u64),
     Unknown,
 }
 
 // The intermediate physical address of an abort: none, the page alone, or the byte.
-#[derive(Drop)]
+#[derive(Clone, Copy)]
 pub enum IntermediateAddress {
     None,
     Page(u64),

@@ -1,5 +1,7 @@
 // The bits of a word by their numbers in the manual: `field(word, 19, 17)` is what the manual writes as word<19:17>.
 // Every function has an answer for every argument: bits that a word doesn't have are 0.
+#![tactic(auto)]
+
 ghost use Rattle.std.specs.Prelude.{◌≡◌, ◌+◌, ◌%◌, ◌^◌, min};
 ghost use Rattle.bits.specs.Field.{width_of, field_of, bit_of, digit, placed_of};
 

@@ -5,7 +5,7 @@ ghost use Rattle.cause.specs.Answer.{cause_number, CausePromise};
 use crate::kind::{Cause, cause_at};
 use record::{Addresses, Origin, Record};
 
-#[derive(Drop)]
+#[derive(Clone, Copy)]
 pub enum Answer {
     Caused(Cause),
     // No edition has the record.

@@ -4,7 +4,7 @@ ghost use Rattle.cause.specs.Kind.{kind_of, level_of, walk_of, cause_at};
 
 use bits::field32;
 
-#[derive(Drop)]
+#[derive(Clone, Copy)]
 pub enum Kind {
     // A synchronous external abort.
     External,
@@ -25,7 +25,7 @@ pub enum Kind {
 }
 
 // The level of the lookup, where the code has one.
-#[derive(Drop)]
+#[derive(Clone, Copy)]
 pub enum Level {
     None,
     // Level -1.
@@ -33,7 +33,7 @@ pub enum Level {
     At(u32),
 }
 
-#[derive(Drop)]
+#[derive(Clone, Copy)]
 pub struct Cause {
     pub kind: Kind,
     pub level: Level,

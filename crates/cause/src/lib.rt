@@ -1,5 +1,7 @@
 // Why an abort came, from its record: the kind of fault, its level, and whether it was on a table walk; and the fault by which it is passed
 // on to the guest.
+#![tactic(auto)]
+
 mod answer;
 mod kind;
 mod pass;

@@ -5,7 +5,7 @@ ghost use Rattle.cause.specs.Pass.{passing_level, with_level, by_kind, passed_on
 use crate::kind::{Cause, Kind, Level};
 use fault::Fault;
 
-#[derive(Drop)]
+#[derive(Clone, Copy)]
 pub enum PassedOn {
     Fault(Fault),
     // No injection tells of it: it was on a walk, its level isn't 1 to 3, or no injected fault is of its kind.

@@ -3,7 +3,7 @@ use a32_fields::{Fields, Immediate, Literal, Multiple, Register, Transfer};
 use rows::{Reply, Row, is_words, with, word};
 
 // A row's fields, or that it has none.
-#[derive(Drop)]
+#[derive(Clone, Copy)]
 pub enum Given {
     Fields(Fields),
     None,

@@ -1,6 +1,8 @@
 // Answers the second program's questions to the calls on the chip's registers, to the one that makes a saved word of a status word, and to
 // the one that tells why an abort came. Each line of standard input is a row, the word of a call and the numbers that it is asked with, and
 // is answered by a line of numbers, or by `no row` (second/README.md).
+#![tactic(auto)]
+
 mod abort;
 mod id;
 mod mode;

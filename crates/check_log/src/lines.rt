@@ -1,8 +1,8 @@
 // The answers as lines of text.
 use libc::STDOUT_FILENO;
-use log::{Entry, Look, Read, Section};
 use log_rewrite::Rewritten;
 use log_writer::Written;
+use trap_log::{Entry, Look, Read, Section};
 
 // Writes the first bytes of a line's buffer.
 fn put(line: &[u8], end: usize) {
@@ -133,7 +133,11 @@ fn again_line(number: u32, section: u32, length: usize) {
 
 pub fn again(answer: Rewritten, out: &[u8]) {
     match answer {
-        Rewritten::Unread(read) => again_line(log::number(read), log::section_in(read), 0),
+        Rewritten::Unread(read) => again_line(
+            trap_log::number(read),
+            trap_log::section_in(read),
+            0,
+        ),
         Rewritten::Written(written) => again_line(
             log_writer::number(written),
             0,

@@ -3,6 +3,8 @@
 // A question is a letter and what it asks about: a log to be read, `r`, also by the reader that holds it; a log and a place in it, `l`; a
 // log to be written again into a buffer, `a`; lists to be written into a buffer, `w`. A buffer is shown whole, whatever the answer. A question
 // with a list that has no room is answered by `no row`.
+#![tactic(auto)]
+
 mod input;
 mod lines;
 
@@ -24,7 +26,7 @@ fn read_question() {
         return;
     }
     let log = input::first_bytes(&space, n);
-    lines::read(b"read ", log::read(log));
+    lines::read(b"read ", trap_log::read(log));
     lines::read(b"held ", log_reader::read_in(log));
 }
 

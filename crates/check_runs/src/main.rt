@@ -1,5 +1,7 @@
 // Answers the second program's questions to the queue of waiting interrupts and to the return. Each line of standard input is a row, a word
 // and the numbers of a whole run, and is answered by a line of numbers, every call's, or by `no row` (second/README.md).
+#![tactic(auto)]
+
 mod run;
 
 use rows::{Reply, Row, is};

@@ -15,7 +15,7 @@ use std::num::wrapping_add_usize;
 const END: u64 = 48;
 
 // A run as far as it has been made.
-#[derive(Drop)]
+#[derive(Clone, Copy)]
 struct Run {
     // The state as it stands now.
     words: [u32; 48],

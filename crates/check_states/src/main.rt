@@ -1,5 +1,7 @@
 // Answers the second program's questions to the calls on a guest's state and its status word. Each line of standard input is a row, the
 // word of a call and the numbers that it is asked with, and is answered by a line of numbers, or by `no row` (second/README.md).
+#![tactic(auto)]
+
 mod back;
 mod finish;
 mod held;

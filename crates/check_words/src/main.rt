@@ -1,5 +1,7 @@
 // Answers the second program's questions to the calls on words of both forms and on whole traps. Each line of standard input is a row, the
 // word of a call and the numbers that it is asked with, and is answered by a line of numbers, or by `no row` (second/README.md).
+#![tactic(auto)]
+
 mod again;
 mod both;
 mod carry;

@@ -6,27 +6,27 @@ use bits::field;
 use status::Marks;
 
 // ID_AA64PFR0_EL1.
-#[derive(Drop)]
+#[derive(Clone, Copy)]
 pub struct IdAa64pfr0(pub u64);
 
 // ID_AA64MMFR0_EL1.
-#[derive(Drop)]
+#[derive(Clone, Copy)]
 pub struct IdAa64mmfr0(pub u64);
 
 // ID_AA64MMFR1_EL1.
-#[derive(Drop)]
+#[derive(Clone, Copy)]
 pub struct IdAa64mmfr1(pub u64);
 
 // ID_PFR0, which a hypervisor in AArch64 reads as ID_PFR0_EL1, as it does the next two.
-#[derive(Drop)]
+#[derive(Clone, Copy)]
 pub struct IdPfr0(pub u64);
 
 // ID_PFR2.
-#[derive(Drop)]
+#[derive(Clone, Copy)]
 pub struct IdPfr2(pub u64);
 
 // ID_MMFR3.
-#[derive(Drop)]
+#[derive(Clone, Copy)]
 pub struct IdMmfr3(pub u64);
 
 // Whether a field isn't 0, which is "not implemented".

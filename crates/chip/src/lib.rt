@@ -1,5 +1,7 @@
 // What the chip's registers say before a trap is read: the edition that the board has, the marks of a 32-bit guest, and what ran when it
 // trapped. Each register is a kind of number of its own, so that a caller can't exchange them. Every word has an answer.
+#![tactic(auto)]
+
 mod features;
 mod ran;
 

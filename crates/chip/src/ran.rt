@@ -6,14 +6,14 @@ use bits::bit;
 use record::Origin;
 
 // The word that the chip saved, SPSR_EL2.
-#[derive(Drop)]
+#[derive(Clone, Copy)]
 pub struct Spsr(pub u64);
 
 // HCR_EL2, as it was while the guest ran.
-#[derive(Drop)]
+#[derive(Clone, Copy)]
 pub struct Hcr(pub u64);
 
-#[derive(Drop)]
+#[derive(Clone, Copy)]
 pub enum Ran {
     // 64-bit code.
     AArch64,

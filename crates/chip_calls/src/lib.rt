@@ -1,4 +1,6 @@
 // What the chip's registers say, and why an abort came, for other languages. A record is sixteen words.
+#![tactic(auto)]
+
 ghost use Rattle.std.specs.Prelude.{◌≡◌, [], ◌∷◌};
 ghost use Rattle.record_of_words.specs.Reading.{record_of};
 ghost use Rattle.esr_calls.specs.Calls.{origin_of};

@@ -2,7 +2,7 @@
 ghost use Rattle.std.specs.Prelude.{◌≡◌};
 ghost use Rattle.coprocessor.specs.Answer.{transfer_number};
 
-#[derive(Drop)]
+#[derive(Clone, Copy)]
 pub enum Answer {
     // A read: its register has the value, or its two have theirs.
     Read,

@@ -1,4 +1,6 @@
 // A coprocessor read or write that trapped (MCR, MRC, VMRS, MCRR, MRRC), finished for the guest.
+#![tactic(auto)]
+
 mod answer;
 mod nzcv;
 mod transfer;

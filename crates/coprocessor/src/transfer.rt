@@ -10,14 +10,14 @@ use record::{Mcr, Mcrr, Record};
 use status::sound;
 use step::{had, passes, stepped};
 
-#[derive(Drop)]
+#[derive(Clone, Copy)]
 pub struct Finished {
     pub answer: Answer,
     pub state: Guest,
 }
 
 // The read or write that a record tells of: of one register, or of two.
-#[derive(Drop)]
+#[derive(Clone, Copy)]
 pub(crate) enum Transfer {
     One(Mcr),
     Two(Mcrr),

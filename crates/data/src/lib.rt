@@ -1,4 +1,6 @@
 // What passes between a register and the device. SAS 0 is a byte, 1 a halfword, 2 a word.
+#![tactic(auto)]
+
 ghost use Rattle.std.specs.Prelude.{◌≡◌};
 ghost use Rattle.data.specs.Data.{cut_to, reversed, transferred, sign_of, ones_above, extended};
 

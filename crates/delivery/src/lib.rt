@@ -1,4 +1,6 @@
 // A delivery step: of the interrupts that wait for a guest, the oldest whose mask bit is 0 is injected into its state.
+#![tactic(auto)]
+
 ghost use Rattle.std.specs.Prelude.{◌≡◌};
 ghost use Rattle.delivery.specs.Row.{row, delivery_row, correction_of};
 ghost use Rattle.delivery.specs.Answer.{answer_number};
@@ -12,7 +14,7 @@ use pending::{Choice, Kind, Masks, Queue, next};
 use signed::Signed;
 use status::{Mode, sound, t32};
 
-#[derive(Drop)]
+#[derive(Clone, Copy)]
 pub enum Answer {
     Delivered(Kind),
     // Nothing waits whose mask bit is 0.
@@ -24,14 +26,14 @@ pub enum Answer {
 }
 
 // A step's answer, and what waits after it.
-#[derive(Drop)]
+#[derive(Clone, Copy)]
 pub struct Outcome {
     pub answer: Answer,
     pub queue: Queue,
 }
 
 // A refusal, and a step that delivers nothing, leave the queue and the state as they came.
-#[derive(Drop)]
+#[derive(Clone, Copy)]
 pub struct Delivered {
     pub outcome: Outcome,
     pub state: Guest,

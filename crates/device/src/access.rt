@@ -11,14 +11,14 @@ use record::{DataAbort, Record, Sort};
 use status::sound;
 use step::{had, stepped};
 
-#[derive(Drop)]
+#[derive(Clone, Copy)]
 pub struct Finished {
     pub answer: Answer,
     pub state: Guest,
 }
 
 // The access that a record describes: that of a data abort with ISV 1.
-#[derive(Drop)]
+#[derive(Clone, Copy)]
 pub(crate) enum Described {
     Access(DataAbort),
     Nothing,

@@ -2,7 +2,7 @@
 ghost use Rattle.std.specs.Prelude.{◌≡◌};
 ghost use Rattle.device.specs.Answer.{access_number};
 
-#[derive(Drop)]
+#[derive(Clone, Copy)]
 pub enum Answer {
     // A load: its register has the device's value.
     Loaded,

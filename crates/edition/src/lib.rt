@@ -1,4 +1,6 @@
 // Editions of the Arm manual as sets of chip features, masks of editions, and the refusals that go by them.
+#![tactic(auto)]
+
 ghost use Rattle.std.specs.Prelude.{◌≡◌, true, not};
 ghost use Rattle.edition.specs.Feature.{is_edition, ras, lpa};
 ghost use Rattle.edition.specs.Mask.{mask_of};
@@ -18,7 +20,7 @@ pub const LPA2: u32 = 0xCCCC;
 pub const HAFDBS: u32 = 0xF0F0;
 
 // Why a word or a record is refused.
-#[derive(Drop)]
+#[derive(Clone, Copy)]
 pub enum Refusal {
     // 1: the edition's number is too large.
     UnknownEdition,
@@ -34,7 +36,7 @@ pub enum Refusal {
     OtherEditions(u32, u32),
 }
 
-#[derive(Drop)]
+#[derive(Clone, Copy)]
 pub enum Verdict {
     Taken,
     Refused(Refusal),

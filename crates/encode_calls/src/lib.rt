@@ -1,4 +1,6 @@
 // The word of an A32 load or store from its form and its fields, for other languages: ten of the sixteen words by which one is described.
+#![tactic(auto)]
+
 ghost use Rattle.std.specs.Prelude.{◌≡◌};
 ghost use Rattle.encode_calls.specs.Calls.{transfer_of, immediate_of, register_of, literal_of, multiple_of, fields_of, encoded_of, word_in};
 ghost use Rattle.encode_calls.specs.Calls.{EncodedWord};
@@ -8,7 +10,7 @@ use a32_fields::{Fields, Immediate, Literal, Multiple, Register, Transfer};
 use a32_rule::Encoded;
 
 // What the words ask for.
-#[derive(Drop)]
+#[derive(Clone, Copy)]
 pub(crate) enum Asked {
     Form(Fields),
     None,

@@ -1,4 +1,6 @@
 // Syndrome words (ESR) for other languages: read and written, with records in sixteen words that the caller lends.
+#![tactic(auto)]
+
 ghost use Rattle.std.specs.Prelude.{[], ◌∷◌, ◌≡◌};
 ghost use Rattle.edition.specs.Judge.{refusal_mask, refusal_count};
 ghost use Rattle.syndrome.specs.Reading.{read_of};

@@ -1,4 +1,6 @@
 // A monitor's answer to a trap of its guest, which has one emulated card: a start for a monitor of your own.
+#![tactic(auto)]
+
 ghost use Rattle.std.specs.Prelude.{◌≡◌};
 ghost use Rattle.example.specs.Gone.{by_number, by_access, injecting, finishing, describing, stepping, gone};
 ghost use Rattle.example.specs.Answered.{answered};
@@ -12,7 +14,7 @@ use registers::{Esr, Far, Hpfar};
 use way::Way;
 
 // What the monitor does next.
-#[derive(Drop)]
+#[derive(Clone, Copy)]
 pub enum Next {
     // The guest goes on, in the state beside this.
     Resume,
@@ -24,7 +26,7 @@ pub enum Next {
     Refused(u32),
 }
 
-#[derive(Drop)]
+#[derive(Clone, Copy)]
 pub struct Answered {
     pub next: Next,
     pub state: Guest,

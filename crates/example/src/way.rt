@@ -11,14 +11,14 @@ use record::{Record, Sort};
 use trap::Trap;
 
 // What the monitor asks of a trap: its record, whether it is an access at the card, and the address that the guest is told.
-#[derive(Drop)]
+#[derive(Clone, Copy)]
 pub(crate) struct Seen {
     pub(crate) what: Record,
     pub(crate) card: bool,
     pub(crate) address: u64,
 }
 
-#[derive(Drop)]
+#[derive(Clone, Copy)]
 pub(crate) enum Way {
     // It gets an exception.
     Inject(Injection),

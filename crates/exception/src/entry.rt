@@ -11,7 +11,7 @@ use std::num::wrapping_add_u32;
 
 // What an exception does: the mode that it enters, its offset in the vector table, the mode's LR in the AArch64 numbering, whether A and F
 // are set (else kept), and what is added to PC for the link, in either instruction set.
-#[derive(Drop)]
+#[derive(Clone, Copy)]
 pub struct Row {
     pub mode: Mode,
     pub vector: u32,

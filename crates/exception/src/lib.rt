@@ -1,4 +1,6 @@
 // The state of a Non-secure AArch32 guest, and exception entry: the one place that changes its mode.
+#![tactic(auto)]
+
 mod entry;
 mod state;
 

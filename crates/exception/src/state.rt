@@ -5,7 +5,7 @@ ghost use Rattle.exception.specs.State.{register_in, with_register};
 use status::Marks;
 
 // The saved program status registers (SPSR) of the modes that an exception is taken to.
-#[derive(Drop)]
+#[derive(Clone, Copy)]
 pub struct Saved {
     pub fiq: u32,
     pub irq: u32,
@@ -14,7 +14,7 @@ pub struct Saved {
     pub und: u32,
 }
 
-#[derive(Drop)]
+#[derive(Clone, Copy)]
 pub struct FaultRegisters {
     pub dfsr: u32,
     pub ifsr: u32,
@@ -23,7 +23,7 @@ pub struct FaultRegisters {
 }
 
 // `regs` has the guest's registers in the AArch64 numbering, `status` is its CPSR, and `marks` says which features it has.
-#[derive(Drop)]
+#[derive(Clone, Copy)]
 pub struct Guest {
     pub regs: [u32; 31],
     pub pc: u32,

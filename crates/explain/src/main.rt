@@ -4,6 +4,8 @@
 //
 // Input and lines may have any length: a chunk of the input is held at a time, and of a line what `question` keeps of it. The answers to a
 // chunk are written before the next one is read.
+#![tactic(auto)]
+
 ghost use Rattle.std.specs.Prelude.{◌≡◌, ◌≤◌, ◌*◌, length, take};
 ghost use Rattle.io.specs.Counts.{IsPrefixLen};
 ghost use Rattle.text.specs.Append.{Appends};
@@ -33,7 +35,7 @@ fn answer(out: &mut [u8], at: usize, question: Question) -> usize
 }
 
 // The line that a chunk leaves unended, and the end of the answers to those that it ends.
-#[derive(Drop)]
+#[derive(Clone, Copy)]
 struct Progress {
     line: State,
     end: usize,
@@ -65,7 +67,7 @@ fn answers(out: &mut [u8], chunk: &[u8], before: State) -> Progress
 
 // What a chunk of the input gave: the line that it leaves unended, the end of the answers to those that it ends, whether it had a byte, and
 // whether the input has ended. A read that fails has no byte, and ends no input.
-#[derive(Drop)]
+#[derive(Clone, Copy)]
 struct Turn {
     line: State,
     end: usize,

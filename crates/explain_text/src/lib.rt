@@ -1,4 +1,6 @@
 // What is said of a syndrome word and of a whole trap from AArch32, as lines of text appended to a buffer as `text::append` does.
+#![tactic(auto)]
+
 mod address_lines;
 mod trap_lines;
 mod word_lines;

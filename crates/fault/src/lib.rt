@@ -1,4 +1,6 @@
 // The words of the fault status registers, DFSR and IFSR.
+#![tactic(auto)]
+
 ghost use Rattle.std.specs.Prelude.{◌≡◌};
 ghost use Rattle.fault.specs.Fault.{by_level, levelled, fault_row, is_long, column, status_word, status_of, is_alignment, ifsr_word};
 ghost use Rattle.fault.specs.Fault.{domain_in, dfsr_of, dfsr_word, is_code, code_in, asynchronous_dfsr};
@@ -6,7 +8,7 @@ ghost use Rattle.fault.specs.Fault.{domain_in, dfsr_of, dfsr_word, is_code, code
 use bits::bit;
 
 // A fault with the level of the lookup that gave it, where the fault has a level.
-#[derive(Drop)]
+#[derive(Clone, Copy)]
 pub enum Fault {
     External,
     Translation(u8),
@@ -16,14 +18,14 @@ pub enum Fault {
 }
 
 // How a fault is written in a code field or in a register, or that it can't be.
-#[derive(Drop)]
+#[derive(Clone, Copy)]
 pub enum Encoding {
     Code(u32),
     Unwritable,
 }
 
 // A row of the table: FS of the short format, STATUS of the long, and whether the short format's DFSR has the domain.
-#[derive(Drop)]
+#[derive(Clone, Copy)]
 struct Row {
     short: Encoding,
     long: Encoding,

@@ -1,4 +1,6 @@
 // Fault codes, error types and the codes of a valid instruction syndrome, as masks of the editions that have them.
+#![tactic(auto)]
+
 ghost use Rattle.std.specs.Prelude.{◌≡◌};
 ghost use Rattle.edition.specs.Mask.{mask_of};
 ghost use Rattle.fault_code.specs.Code.{instruction_code, data_code, set_rule, isv_rule, error_code};

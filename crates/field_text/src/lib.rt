@@ -1,4 +1,6 @@
 // A word's fields as lines of text, by the word's shape: each field's name, bits and value, and what the manual says of the value.
+#![tactic(auto)]
+
 ghost use Rattle.std.specs.Prelude.{◌+◌, ◌≤◌};
 ghost use Rattle.text.specs.Append.{Appends};
 ghost use Rattle.field_text.specs.Rows.{rows_from, rows_text, shape_text};

@@ -8,14 +8,14 @@ use signed::Signed;
 use status::{Mode, t32};
 
 // The instruction fetch that a prefetch abort reports.
-#[derive(Drop)]
+#[derive(Clone, Copy)]
 pub struct Fetch {
     pub fault: Fault,
     pub address: u64,
 }
 
 // The data access that a data abort reports. The domain is told where DFSR has one, and may be any number: above 15 is refused.
-#[derive(Drop)]
+#[derive(Clone, Copy)]
 pub struct Access {
     pub fault: Fault,
     pub address: u64,
@@ -23,7 +23,7 @@ pub struct Access {
     pub domain: u8,
 }
 
-#[derive(Drop)]
+#[derive(Clone, Copy)]
 pub enum Injection {
     // PC is at the undefined instruction.
     UndefinedAt,

@@ -7,7 +7,7 @@ use crate::report::{Report, report_of};
 use exception::{Guest, aligned, enter};
 use status::sound;
 
-#[derive(Drop)]
+#[derive(Clone, Copy)]
 pub struct Injected {
     pub answer: Answer,
     pub state: Guest,

@@ -1,4 +1,6 @@
 // The five exceptions that a hypervisor injects into a guest.
+#![tactic(auto)]
+
 mod answer;
 mod injection;
 mod injector;

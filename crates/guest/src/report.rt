@@ -6,7 +6,7 @@ use crate::injection::{Access, Fetch, Injection};
 use exception::FaultRegisters;
 use fault::{code_in, dfsr_word, ifsr_word, is_code};
 
-#[derive(Drop)]
+#[derive(Clone, Copy)]
 pub(crate) enum Report {
     // The fault registers after the injection.
     Registers(FaultRegisters),

@@ -1,4 +1,6 @@
 // Exceptions of a guest for other languages: injected, delivered and returned from, in a state of 48 words that the caller lends.
+#![tactic(auto)]
+
 mod asked;
 mod calls;
 

@@ -1,4 +1,6 @@
 // Rules of single fields of the ISS, which every form of a syndrome word shares.
+#![tactic(auto)]
+
 ghost use Rattle.std.specs.Prelude.{◌≡◌};
 ghost use Rattle.iss.specs.Rule.{condition_rule, addressing_rule, passed_rule, mmu_fault, external_rule, walk_rule, abort_rule};
 ghost use Rattle.iss.specs.Rule.{extension_rule, maintenance_rule, direction_rule, immediate_rule};

@@ -1,5 +1,7 @@
 // The rules that ask nothing of the edition: fields that fit their bits, and what the layout and the abort rules allow. The kinds without a
 // register are the short form's too.
+#![tactic(auto)]
+
 ghost use Rattle.std.specs.Prelude.{◌≡◌, ◌&&◌};
 ghost use Rattle.bits.specs.Layout.{fitting};
 ghost use Rattle.layout.specs.Fields.{plain_fields, wfx_fields, mcr_fields, mcrr_fields, ldc_fields, simd_fields, call_fields, smc_fields};

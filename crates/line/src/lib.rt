@@ -1,6 +1,8 @@
 // A line of the program's input: one hexadecimal digit for the edition, a space, and 16 hexadecimal digits of either case for the word.
 //
 // `parse` reads a whole line. `start`, `feed` and `finish` read one of any length, a byte at a time.
+#![tactic(auto)]
+
 ghost use Rattle.std.specs.Prelude.{◌≡◌, ◌≤◌, length};
 ghost use Rattle.line.specs.Line.{word_of, digits_word, line_of};
 ghost use Rattle.line.specs.Feed.{started, fed, ended};
@@ -8,14 +10,14 @@ ghost use Rattle.line.specs.Feed.{started, fed, ended};
 use text::Digit;
 
 // What a line says.
-#[derive(Drop)]
+#[derive(Clone, Copy)]
 pub enum Line {
     Question { edition: u32, word: u64 },
     NoLine,
 }
 
 // A word, or that there is none.
-#[derive(Drop)]
+#[derive(Clone, Copy)]
 pub enum Word {
     Value(u64),
     None,
@@ -72,7 +74,7 @@ pub fn parse(line: &[u8]) -> Line
 }
 
 // A line as far as it has come: its first bytes, and how many came, counted no further than one past a whole line.
-#[derive(Drop)]
+#[derive(Clone, Copy)]
 pub struct State {
     pub bytes: [u8; 18],
     pub count: usize,

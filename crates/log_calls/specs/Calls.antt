@@ -1,7 +1,7 @@
 -- What each call answers, as numbers: that of the call by value.
 use Rattle.std.specs.Prelude.{ℕ, ◌≡◌, List, [], ◌∷◌, length}
-use Rattle.log.specs.Answer.{number_of, gone_in, section_in}
-use Rattle.log.specs.declared.answer.Read.{Read}
+use Rattle.trap_log.specs.Answer.{number_of, gone_in, section_in}
+use Rattle.trap_log.specs.declared.answer.Read.{Read}
 use Rattle.log_section.specs.declared.section.Section.{Section}
 use Rattle.log_section.specs.declared.entry.Entry.{Entry}
 use Rattle.log_section.specs.declared.entry.Look.{Look}

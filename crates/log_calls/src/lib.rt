@@ -1,11 +1,13 @@
 // Trap logs for other languages: read, looked at and written.
+#![tactic(auto)]
+
 ghost use Rattle.std.specs.Prelude.{◌≡◌};
-ghost use Rattle.log.specs.Answer.{read_of};
+ghost use Rattle.trap_log.specs.Answer.{read_of};
 ghost use Rattle.log_reader.specs.Reader.{look_in};
 ghost use Rattle.log_writer.specs.Lists.{Lists};
 ghost use Rattle.log_calls.specs.Calls.{ReadLog, whole_in, count_in, entry_in, first_in, second_in, found_in, WrittenLog};
 
-use log::{Entry, Section};
+use trap_log::{Entry, Section};
 
 // Reads a log.
 #[unsafe(no_mangle)]
@@ -13,8 +15,11 @@ pub extern "C" fn knucklepin_log_read(log: &[u8], answer: &mut [u64; 2]) -> u32
     ensures { ReadLog (read_of log.now) result answer.new }
 {
     let read = log_reader::read_in(log);
-    *answer = [log::gone_in(read) as u64, log::section_in(read) as u64];
-    log::number(read)
+    *answer = [
+        trap_log::gone_in(read) as u64,
+        trap_log::section_in(read) as u64,
+    ];
+    trap_log::number(read)
 }
 
 fn whole_in(section: Section) -> u64

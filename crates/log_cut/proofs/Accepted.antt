@@ -10,10 +10,10 @@ use borrow.Author.Tests.{le-leb}
 use lib.ListN.{length, length-drop}
 use Rattle.log_section.specs.Section.{injection_size, count_of, end_of, whole_of, after_of, rest_after, whole_after}
 use Rattle.log_section.specs.Log.{entries_of}
-use Rattle.log.specs.Answer.{read_of}
-use Rattle.log.specs.declared.answer.Read.TheVariants.{Accepted}
+use Rattle.trap_log.specs.Answer.{read_of}
+use Rattle.trap_log.specs.declared.answer.Read.TheVariants.{Accepted}
 use Rattle.log_section.proofs.Found.{whole_is}
-use Rattle.log.proofs.RoundTrip.{accepts}
+use Rattle.trap_log.proofs.RoundTrip.{accepts}
 use Rattle.log_cut.specs.Whole.{standing, whole_entries, count_in}
 use Rattle.log_cut.proofs.Rests.{past_end}
 use Rattle.log_cut.proofs.Standings.{all_standing}

@@ -17,7 +17,7 @@ use Rattle.log_section.specs.Look.{section_at, moved_past, skip_from, start_afte
 use Rattle.log_section.specs.declared.section.Section.{Section}
 use Rattle.log_section.specs.declared.entry.Place.{Place}
 use Rattle.log_section.proofs.Found.{not_found}
-use Rattle.log.proofs.Given.{rest_at}
+use Rattle.trap_log.proofs.Given.{rest_at}
 use Rattle.log_section.proofs.Places.{place_in, standing, end_in, skip_none}
 
 -- a section that isn't whole ends past the bytes

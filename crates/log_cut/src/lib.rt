@@ -1,13 +1,15 @@
 // What stands whole in a log, also in one that is cut short: the entries that precede the cut, and where the cut is. A section is named by
 // how many lie before it.
+#![tactic(auto)]
+
 ghost use Rattle.std.specs.Prelude.{◌≡◌, cond, ◌≤◌, ◌<◌, min, length, drop};
 ghost use Rattle.log_section.specs.Section.{injection_size, count_of, whole_of, rest_after};
 ghost use Rattle.log_cut.specs.Whole.{standing, whole_count, whole_entry, cut_of, cut_after};
 
-use log::{Entry, Section};
+use trap_log::{Entry, Section};
 
 // Where a section is cut.
-#[derive(Drop)]
+#[derive(Clone, Copy)]
 pub enum Cut {
     // Within its count, of which so many bytes are there.
     Count {
@@ -26,7 +28,7 @@ fn start(log: &[u8], passed: u32) -> usize
     requires { passed < 4 }
     ensures { (result ≤ length log.now) × (drop result log.now ≡ rest_after log.now passed) }
 {
-    let place = log::skip(log, 0, 0, passed);
+    let place = trap_log::skip(log, 0, 0, passed);
     let reached = place.passed;
     if reached == passed {
         return place.at;
@@ -46,7 +48,7 @@ fn cut_in(rest: &[u8], size: u32) -> Cut
     ensures { result ≡ cut_of size rest.now }
 {
     let bytes = rest.len();
-    match log::front(rest, 0) {
+    match trap_log::front(rest, 0) {
         Section::Whole { count, end: _ } => {
             let behind = bytes - 4;
             let whole = smaller(count, behind / (size as usize));
@@ -79,7 +81,7 @@ fn whole_in(rest: &[u8], size: u32) -> usize
 fn injections_in(rest: &[u8]) -> usize
     ensures { result ≡ cond (whole_of injection_size rest.now) (count_of rest.now) 0 }
 {
-    match log::front(rest, log::size_of(3)) {
+    match trap_log::front(rest, trap_log::size_of(3)) {
         Section::Whole { count, end: _ } => count,
         Section::None => 0,
     }
@@ -93,7 +95,7 @@ pub fn cut_after(log: &[u8], passed: u32) -> Cut
         return Cut::Count { bytes: 0 };
     }
     let at = start(log, passed);
-    cut_in(&log[at..], log::size_of(passed))
+    cut_in(&log[at..], trap_log::size_of(passed))
 }
 
 // How many entries of a section stand whole.
@@ -107,7 +109,7 @@ pub fn count(log: &[u8], passed: u32) -> usize
     if passed == 3 {
         return injections_in(&log[at..]);
     }
-    whole_in(&log[at..], log::size_of(passed))
+    whole_in(&log[at..], trap_log::size_of(passed))
 }
 
 // Entry i of those of a section that stand whole.
@@ -118,6 +120,6 @@ pub fn entry(log: &[u8], passed: u32, i: usize) -> Entry
         return Entry::None;
     }
     let at = start(log, passed);
-    let place = at + 4 + i * (log::size_of(passed) as usize);
-    log::entry_at(log, passed, place)
+    let place = at + 4 + i * (trap_log::size_of(passed) as usize);
+    trap_log::entry_at(log, passed, place)
 }

@@ -8,7 +8,7 @@ use native.Mathlib.Omega.{arith}
 use lib.ListN.{length, get_or, length-append, length-map, get_or-append, get_or-eq_default}
 use lib.Seq.{get_or-append-add}
 use Rattle.log_section.specs.Log.{Address, Entries, nowhere}
-use Rattle.log.specs.Answer.{read_of}
+use Rattle.trap_log.specs.Answer.{read_of}
 use Rattle.log_cut.specs.Whole.{count_in}
 use Rattle.log_text.specs.Cut.{syndrome_text}
 use Rattle.log_text.specs.Lines.{edition_text}

@@ -5,9 +5,9 @@ use mathlib.Core.List.{List, [], ◌∷◌, ◌++◌, map}
 use Prim.Native.Nat.{ℕ, zero, suc, ◌-◌, ◌≤◌}
 use native.Mathlib.Omega.{arith}
 use lib.ListN.{length, get_or, length-append}
-use Rattle.log.specs.Answer.{section_in, read_of}
+use Rattle.trap_log.specs.Answer.{section_in, read_of}
 use Rattle.log_section.specs.Log.{Address, Entries, injection_byte, domain_of}
-use Rattle.log.specs.declared.answer.Read.{Read}
+use Rattle.trap_log.specs.declared.answer.Read.{Read}
 use Rattle.log_cut.specs.Whole.{cut_after}
 use Rattle.log_text.proofs.CutRoom.{syndrome_length, cut_length}
 use Rattle.log_text.specs.Lines.{read_text, edition_text}

@@ -11,9 +11,9 @@ use lib.ListN.{length}
 use Rattle.registers.specs.declared.Far.{Far}
 use Rattle.registers.specs.declared.Hpfar.{Hpfar}
 use Rattle.log_section.specs.Log.{entries_of}
-use Rattle.log.specs.Answer.{number_of, read_of}
+use Rattle.trap_log.specs.Answer.{number_of, read_of}
 use Rattle.log_section.specs.Look.{entry_given}
-use Rattle.log.specs.declared.answer.Read.TheVariants.{Accepted, TooLong, CutShort, LeftOver, Unequal, WideDomain}
+use Rattle.trap_log.specs.declared.answer.Read.TheVariants.{Accepted, TooLong, CutShort, LeftOver, Unequal, WideDomain}
 use Rattle.log_section.specs.declared.entry.Entry.{Entry}
 use Rattle.registers.specs.declared.Esr.{Esr}
 use Rattle.log_cut.specs.Whole.{whole_entries, count_in, whole_count, whole_entry}

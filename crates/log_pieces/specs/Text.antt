@@ -6,8 +6,8 @@ use mathlib.Core.List.{List, [], ◌∷◌, ◌++◌, map, flatten}
 use Rattle.bits.specs.Among.{among}
 use Rattle.edition.specs.Mask.{mask_of}
 use Rattle.log_section.specs.Log.{Address, Entries, injection_byte, domain_of}
-use Rattle.log.specs.Answer.{number_of, section_in, read_of}
-use Rattle.log.specs.declared.answer.Read.{Read}
+use Rattle.trap_log.specs.Answer.{number_of, section_in, read_of}
+use Rattle.trap_log.specs.declared.answer.Read.{Read}
 use Rattle.log_cut.specs.Whole.{whole_entries, cut_after}
 use Rattle.log_text.specs.Cut.{syndrome_text, cut_text}
 use Rattle.log_text.specs.Lines.{read_text, edition_text, injection_text}

@@ -1,18 +1,18 @@
 // What is shown of a log: the entries that stand whole in one that was accepted or is cut short, and none of another that is refused. A
 // section is named by how many lie before it.
 ghost use Rattle.std.specs.Prelude.{◌<◌, ◌≡◌, length, get_or};
-ghost use Rattle.log.specs.Answer.{read_of};
+ghost use Rattle.trap_log.specs.Answer.{read_of};
 ghost use Rattle.log_section.specs.Look.{entry_given};
 ghost use Rattle.log_cut.specs.Whole.{count_in};
 ghost use Rattle.bits.specs.Among.{among};
 ghost use Rattle.log_pieces.specs.Text.{is_shown, shown, seen_mask};
 
-use log::Entry;
+use trap_log::Entry;
 
 fn is_shown(log: &[u8]) -> bool
     ensures { result ≡ is_shown (read_of log.now) }
 {
-    let number = log::number(log_reader::read_in(log));
+    let number = trap_log::number(log_reader::read_in(log));
     if number == 0 {
         return true;
     }

@@ -1,6 +1,8 @@
 // The text of a log in pieces, each appended to a buffer as `text::append` does: how the log was read; of a log that was accepted or is cut
 // short the line of each edition seen, the lines of each trap and the line of each injection; and where it is cut. All pieces together may
 // be many times as long as the log.
+#![tactic(auto)]
+
 ghost use Rattle.std.specs.Prelude.{◌<◌, ◌≡◌, Bool, [], length, get_or};
 ghost use Rattle.text.specs.Append.{Appends};
 ghost use Rattle.log_section.specs.Look.{entry_given};
@@ -12,7 +14,7 @@ ghost use Rattle.log_pieces.specs.Text.{trap_pieces};
 mod entries;
 
 pub use entries::known_editions;
-use log::{Entry, Read};
+use trap_log::{Entry, Read};
 
 // How many pieces a log's text has, whether or not its traps are explained.
 pub fn count(log: &[u8]) -> usize
@@ -52,7 +54,7 @@ fn first_lines(out: &mut [u8], at: usize, answer: Read) -> usize
     ensures { Appends (first_text answer) out.old at out.new result }
 {
     let line = log_text::read_line(out, at, answer);
-    if log::number(answer) == 13 {
+    if trap_log::number(answer) == 13 {
         return text::append(
             out,
             line,
@@ -67,10 +69,10 @@ fn last_line(out: &mut [u8], at: usize, log: &[u8]) -> usize
     ensures { Appends (last_text log.now) out.old at out.new result }
 {
     let answer = log_reader::read_in(log);
-    if log::number(answer) != 13 {
+    if trap_log::number(answer) != 13 {
         return at;
     }
-    let section = log::section_in(answer);
+    let section = trap_log::section_in(answer);
     log_text::cut_line(out, at, section, log_cut::cut_after(log, section - 1))
 }
 

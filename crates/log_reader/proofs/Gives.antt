@@ -8,13 +8,13 @@ use native.Mathlib.Omega.{arith}
 use lib.ListN.{get_or}
 use Rattle.log_section.specs.Section.{sizes, end_of, rest_after, count_after}
 use Rattle.log_section.specs.Log.{entries_of}
-use Rattle.log.specs.Answer.{read_of}
+use Rattle.trap_log.specs.Answer.{read_of}
 use Rattle.log_section.specs.Look.{look_at, start_after, entry_given}
-use Rattle.log.specs.declared.answer.Read.TheVariants.{Accepted}
+use Rattle.trap_log.specs.declared.answer.Read.TheVariants.{Accepted}
 use Rattle.log_section.specs.declared.section.Section.{Section}
 use Rattle.log_section.specs.declared.entry.Place.{Place}
 use Rattle.log_section.specs.declared.entry.Entry.{Entry}
-use Rattle.log.proofs.Given.{moved_to, entry_found, entry_past}
+use Rattle.trap_log.proofs.Given.{moved_to, entry_found, entry_past}
 use Rattle.log_reader.specs.Reader.{place_after, look_in}
 
 module _ (s : List ℕ) {gone : ℕ} (e : read_of s ≡ Accepted gone) where

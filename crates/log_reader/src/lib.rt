@@ -1,14 +1,16 @@
 // A reader that holds a lent log and its place in it. It answers how the log is read, moves over it section by section, and copies nothing.
 //
 // Where the log is refused, a look still gives what stands in the sections that are whole: the answer is for the caller to ask.
+#![tactic(auto)]
+
 ghost use Rattle.std.specs.Prelude.{◌≡◌};
-ghost use Rattle.log.specs.Answer.{Reading};
+ghost use Rattle.trap_log.specs.Answer.{Reading};
 ghost use Rattle.log_section.specs.Look.{look_at};
 ghost use Rattle.log_reader.specs.Reader.{place_from, look_in};
 
-use log::{Look, Read};
+use trap_log::{Look, Read};
 
-#[derive(Drop)]
+#[derive(Clone, Copy)]
 pub struct LogReader<'a> {
     pub log: &'a [u8],
     // How many sections and how many bytes lie before the reader's place.
@@ -31,14 +33,14 @@ pub fn open<'a>(log: &'a [u8]) -> LogReader<'a>
 pub fn read<'a>(r: LogReader<'a>) -> Read
     ensures { Reading r.entry.log.now result }
 {
-    log::read(r.log)
+    trap_log::read(r.log)
 }
 
 // The reader past n sections, or as many as are whole.
 pub fn past<'a>(r: LogReader<'a>, n: u32) -> LogReader<'a>
     ensures { (result.log ≡ r.entry.log) × (result.passed ≡ (place_from r.entry.log.now r.entry.passed r.entry.at n).passed) × (result.at ≡ (place_from r.entry.log.now r.entry.passed r.entry.at n).at) }
 {
-    let p = log::skip(r.log, r.passed, r.at, n);
+    let p = trap_log::skip(r.log, r.passed, r.at, n);
     LogReader {
         log: r.log,
         passed: p.passed,
@@ -50,7 +52,7 @@ pub fn past<'a>(r: LogReader<'a>, n: u32) -> LogReader<'a>
 pub fn look<'a>(r: LogReader<'a>, i: usize) -> Look
     ensures { result ≡ look_at r.entry.log.now r.entry.passed r.entry.at i }
 {
-    log::look_at(r.log, r.passed, r.at, i)
+    trap_log::look_at(r.log, r.passed, r.at, i)
 }
 
 // For a caller that has the plain slice: how the log is read.

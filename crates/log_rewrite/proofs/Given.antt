@@ -14,17 +14,17 @@ use Rattle.log_section.specs.Number.{number}
 use Rattle.log_section.specs.Section.{injection_size, sizes, end_of, rest_after, count_after}
 use Rattle.log_section.specs.Log.{Address, nowhere, byte_in, bytes_word as word_at, pair_in, injection_in, injection_byte, domain_of, entries_in, entries_of}
 use Rattle.log_section.specs.Log.{body_after}
-use Rattle.log.specs.Answer.{number_of, read_of}
+use Rattle.trap_log.specs.Answer.{number_of, read_of}
 use Rattle.log_section.specs.Look.{section_at, start_after}
-use Rattle.log.specs.declared.answer.Read.{Read}
-use Rattle.log.specs.declared.answer.Read.TheVariants.{Accepted, TooLong, CutShort, LeftOver, Unequal, WideDomain}
+use Rattle.trap_log.specs.declared.answer.Read.{Read}
+use Rattle.trap_log.specs.declared.answer.Read.TheVariants.{Accepted, TooLong, CutShort, LeftOver, Unequal, WideDomain}
 use Rattle.log_section.specs.declared.entry.Place.{Place}
 use Rattle.log_section.specs.declared.entry.Entry.{Entry}
 use Rattle.log_section.specs.declared.entry.Look.{Look}
 use Rattle.log_section.proofs.Codec.{entries_count}
 use Rattle.log_section.proofs.Places.{standing, end_in}
-use Rattle.log.proofs.Given.{rest_at, section_stands_at}
-use Rattle.log.proofs.RoundTrip.{accepts}
+use Rattle.trap_log.proofs.Given.{rest_at, section_stands_at}
+use Rattle.trap_log.proofs.RoundTrip.{accepts}
 use Rattle.log_reader.specs.Reader.{place_after, look_in}
 use Rattle.log_reader.proofs.Gives.{reader_stands, reader_gives}
 use Rattle.log_writer.specs.Lists.{Lists, fars_of, hpfars_of, lists_of}

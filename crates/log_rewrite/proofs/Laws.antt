@@ -13,11 +13,11 @@ use Rattle.bits.specs.Decide.{Test, needs, decide, relabel, AllPass, FailsWith}
 use Rattle.bits.proofs.Deciding.{decide_relabel, decide_append, answer_is, all_pass_relabel, Failing, first_failing, decided_with_exactly}
 use Rattle.log_section.specs.Number.{Bytes}
 use Rattle.log_section.specs.Log.{entries_of, gone_through}
-use Rattle.log.specs.Answer.{read_tests, read_sections, read_of}
-use Rattle.log.specs.Answer.{number_of as number_read}
-use Rattle.log.specs.declared.answer.Read.{Read}
-use Rattle.log.specs.declared.answer.Read.TheVariants.{Accepted}
-use Rattle.log.proofs.Answers.{each_refusal}
+use Rattle.trap_log.specs.Answer.{read_tests, read_sections, read_of}
+use Rattle.trap_log.specs.Answer.{number_of as number_read}
+use Rattle.trap_log.specs.declared.answer.Read.{Read}
+use Rattle.trap_log.specs.declared.answer.Read.TheVariants.{Accepted}
+use Rattle.trap_log.proofs.Answers.{each_refusal}
 use Rattle.log_writer.specs.Lists.{lists_of}
 use Rattle.log_writer.specs.Write.{written_of, buffer_after, Writing}
 use Rattle.log_writer.specs.declared.answer.Written.TheVariants.{Log, NoRoom}

@@ -2,8 +2,8 @@
 -- into a buffer answers, and the buffer after it.
 use Rattle.std.specs.Prelude.{ℕ, ◌≡◌, cond, List, [], ◌∷◌, ◌++◌, leb, eqb, length}
 use Rattle.bits.specs.Decide.{Test, needs, decide, relabel}
-use Rattle.log.specs.Answer.{section_in, read_tests, read_numbers, read_sections, read_of}
-use Rattle.log.specs.Answer.{number_of as number_read}
+use Rattle.trap_log.specs.Answer.{section_in, read_tests, read_numbers, read_sections, read_of}
+use Rattle.trap_log.specs.Answer.{number_of as number_read}
 use Rattle.log_writer.specs.Write.{length_in, buffer_after}
 use Rattle.log_writer.specs.Write.{number_of as number_written}
 use Rattle.log_writer.specs.declared.answer.Written.TheVariants.{Log, NoRoom}

@@ -6,7 +6,7 @@ ghost use Rattle.log_reader.specs.Reader.{look_in};
 ghost use Rattle.log_rewrite.specs.Rewrite.{Taken};
 ghost use Rattle.log_rewrite.specs.Inner.{count_in, entry_word, half_in};
 
-use log::{Entry, Section};
+use trap_log::{Entry, Section};
 
 fn count_in(section: Section) -> usize
     ensures { result ≡ count_in section }
@@ -31,7 +31,7 @@ pub fn bytes(log: &[u8], passed: u32) -> &[u8]
     requires { Taken log.now × (passed < 4) × (get_or sizes passed 0 ≡ 1) }
     ensures { result.now ≡ entries_in 1 byte_in (count_after log.now passed) (body_after log.now passed) }
 {
-    let p = log::skip(log, 0, 0, passed);
+    let p = trap_log::skip(log, 0, 0, passed);
     let first = p.at + 4;
     let end = first + count(log, passed);
     &log[first..end]

@@ -1,4 +1,6 @@
 // A log that is read and written again (request C-14): an accepted log comes out with the same bytes.
+#![tactic(auto)]
+
 ghost use Rattle.std.specs.Prelude.{◌≡◌};
 ghost use Rattle.log_section.specs.Log.{entries_of};
 ghost use Rattle.log_writer.specs.Lists.{lists_of};
@@ -9,11 +11,11 @@ mod entries;
 mod labelled;
 
 pub use labelled::write_raw;
-use log::Read;
 use log_writer::Written;
+use trap_log::Read;
 
 // The reader's refusal, or what the writer answers.
-#[derive(Drop)]
+#[derive(Clone, Copy)]
 pub enum Rewritten {
     Unread(Read),
     Written(Written),
@@ -56,8 +58,8 @@ fn written(log: &[u8], out: &mut [u8]) -> Written
 pub fn rewrite(log: &[u8], out: &mut [u8]) -> Rewritten
     ensures { Rewriting log.now out.old out.new result }
 {
-    let answer = log::read(log);
-    if log::number(answer) != 0 {
+    let answer = trap_log::read(log);
+    if trap_log::number(answer) != 0 {
         return Rewritten::Unread(answer);
     }
     Rewritten::Written(written(log, out))

@@ -10,14 +10,14 @@ use super::number::eight;
 use super::section::{ADDRESS, EDITION, INJECTION, SYNDROME, Section, front};
 use registers::{Esr, Far, Hpfar};
 
-#[derive(Drop)]
+#[derive(Clone, Copy)]
 pub struct Place {
     pub passed: u32,
     pub at: usize,
 }
 
 // Each word is a struct of its kind, so that a caller can't exchange ESR, FAR and HPFAR.
-#[derive(Drop)]
+#[derive(Clone, Copy)]
 pub enum Entry {
     Edition(u8),
     Syndrome(Esr),
@@ -27,7 +27,7 @@ pub enum Entry {
 }
 
 // A section, and one entry of it.
-#[derive(Drop)]
+#[derive(Clone, Copy)]
 pub struct Look {
     pub section: Section,
     pub entry: Entry,

@@ -14,7 +14,7 @@ pub const ADDRESS: u32 = 16;
 pub const INJECTION: u32 = 2;
 
 // A whole section has its count of entries, and its end is where the next one begins.
-#[derive(Drop)]
+#[derive(Clone, Copy)]
 pub enum Section {
     Whole { count: usize, end: usize },
     // The count is cut short or passes the end.

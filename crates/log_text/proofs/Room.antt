@@ -9,9 +9,9 @@ use lib.ListN.{length, length-append}
 use Rattle.registers.specs.declared.Far.{Far}
 use Rattle.registers.specs.declared.Hpfar.{Hpfar}
 use Rattle.edition.specs.Feature.{is_edition}
-use Rattle.log.specs.Answer.{number_of, section_in}
-use Rattle.log.specs.declared.answer.Read.{Read}
-use Rattle.log.specs.declared.answer.Read.TheVariants.{Accepted, TooLong, CutShort, LeftOver, Unequal, WideDomain}
+use Rattle.trap_log.specs.Answer.{number_of, section_in}
+use Rattle.trap_log.specs.declared.answer.Read.{Read}
+use Rattle.trap_log.specs.declared.answer.Read.TheVariants.{Accepted, TooLong, CutShort, LeftOver, Unequal, WideDomain}
 use Rattle.names.specs.Name.{meaning_of}
 use Rattle.names.specs.Table.{sources, values_at}
 use Rattle.names.specs.Value.{injections}

@@ -3,9 +3,9 @@ use Rattle.std.specs.Prelude.{ℕ, cond, List, [], ◌++◌}
 use Rattle.registers.specs.declared.Far.{Far}
 use Rattle.registers.specs.declared.Hpfar.{Hpfar}
 use Rattle.edition.specs.Feature.{is_edition}
-use Rattle.log.specs.Answer.{number_of, section_in}
-use Rattle.log.specs.declared.answer.Read.{Read}
-use Rattle.log.specs.declared.answer.Read.TheVariants.{Accepted, TooLong, CutShort, LeftOver, Unequal, WideDomain}
+use Rattle.trap_log.specs.Answer.{number_of, section_in}
+use Rattle.trap_log.specs.declared.answer.Read.{Read}
+use Rattle.trap_log.specs.declared.answer.Read.TheVariants.{Accepted, TooLong, CutShort, LeftOver, Unequal, WideDomain}
 use Rattle.log_section.specs.declared.entry.Entry.{Entry}
 use Rattle.names.specs.Name.{meaning_of}
 use Rattle.names.specs.Value.{injections}

@@ -1,4 +1,6 @@
 // A trap log as lines of text, each appended to a buffer as `text::append` does.
+#![tactic(auto)]
+
 ghost use Rattle.std.specs.Prelude.{◌++◌};
 ghost use Rattle.text.specs.Ascii.{ascii};
 ghost use Rattle.text.specs.Append.{Appends};
@@ -8,8 +10,8 @@ ghost use Rattle.log_text.specs.Lines.{edition_field, words_text};
 mod cut_lines;
 
 pub use cut_lines::{cut_line, syndrome_line};
-use log::{Entry, Read};
 use registers::{Esr, Far, Hpfar};
+use trap_log::{Entry, Read};
 
 // Appends a space and a number.
 pub fn decimal_field(out: &mut [u8], at: usize, n: u64) -> usize
@@ -50,8 +52,8 @@ fn refused(out: &mut [u8], at: usize, answer: Read) -> usize
     ensures { Appends (refused_text answer) out.old at out.new result }
 {
     let word = text::append(out, at, b"refused");
-    let number = decimal_field(out, word, log::number(answer) as u64);
-    let section = decimal_field(out, number, log::section_in(answer) as u64);
+    let number = decimal_field(out, word, trap_log::number(answer) as u64);
+    let section = decimal_field(out, number, trap_log::section_in(answer) as u64);
     text::append(out, section, b"\n")
 }
 

@@ -12,12 +12,12 @@ use lib.Seq.{take_at, drop_at}
 use Rattle.log_section.specs.Number.{Bytes}
 use Rattle.log_section.specs.Section.{injection_size}
 use Rattle.log_section.specs.Log.{Address, Entries, domains_fit, log_of, entries_of}
-use Rattle.log.specs.Answer.{read_of}
-use Rattle.log.specs.declared.answer.Read.TheVariants.{Accepted}
+use Rattle.trap_log.specs.Answer.{read_of}
+use Rattle.trap_log.specs.declared.answer.Read.TheVariants.{Accepted}
 use Rattle.log_section.proofs.Codec.{Each}
 use Rattle.log_section.proofs.Domains.{domains_fit_exactly}
-use Rattle.log.proofs.RoundTrip.{Fitting, PairFits, Writable, accepts, log_length, log_again, log_accepted, log_entries, entries_agree}
-use Rattle.log.proofs.RoundTrip.{entries_fit}
+use Rattle.trap_log.proofs.RoundTrip.{Fitting, PairFits, Writable, accepts, log_length, log_again, log_accepted, log_entries, entries_agree}
+use Rattle.trap_log.proofs.RoundTrip.{entries_fit}
 use Rattle.log_writer.specs.Lists.{Lists, paired, entries_from, fars_of, hpfars_of, lists_of}
 use Rattle.log_writer.specs.Write.{number_of, length_in, length_by, written_of, buffer_after}
 use Rattle.log_writer.specs.declared.answer.Written.{Written}

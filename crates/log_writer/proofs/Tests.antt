@@ -12,7 +12,7 @@ use lib.Seq.{sets, sets-eq}
 use Rattle.bits.proofs.Deciding.{decide_relabel, answer_is}
 use Rattle.log_section.specs.Section.{injection_size}
 use Rattle.log_section.specs.Log.{byte, word, pair, injection, domains_fit, section_bytes, log_of}
-use Rattle.log.proofs.RoundTrip.{numbers_length, pairs_length}
+use Rattle.trap_log.proofs.RoundTrip.{numbers_length, pairs_length}
 use Rattle.log_writer.specs.Lists.{Lists, paired, entries_from}
 use Rattle.log_writer.specs.Write.{number_of, length_in, length_by, write_tests, written_of, buffer_after, Writing}
 use Rattle.log_writer.specs.declared.answer.Written.{Written}

@@ -2,7 +2,7 @@
 ghost use Rattle.std.specs.Prelude.{◌≡◌};
 ghost use Rattle.log_writer.specs.Write.{number_of, length_in};
 
-#[derive(Drop)]
+#[derive(Clone, Copy)]
 pub enum Written {
     // The log's length.
     Log(usize),

@@ -1,4 +1,6 @@
 // Writes a trap log into a buffer that the caller lends.
+#![tactic(auto)]
+
 ghost use Rattle.std.specs.Prelude.{◌≡◌};
 ghost use Rattle.log_writer.specs.Lists.{Lists};
 ghost use Rattle.log_writer.specs.Write.{Writing};
@@ -10,13 +12,13 @@ mod put;
 pub use answer::{Written, length_in, number};
 
 // The words of ESR, FAR and HPFAR, each kind in a struct of its own, so that a caller can't exchange them.
-#[derive(Drop)]
+#[derive(Clone, Copy)]
 pub struct Syndromes<'a>(pub &'a [u64]);
 
-#[derive(Drop)]
+#[derive(Clone, Copy)]
 pub struct Fars<'a>(pub &'a [u64]);
 
-#[derive(Drop)]
+#[derive(Clone, Copy)]
 pub struct Hpfars<'a>(pub &'a [u64]);
 
 // Writes a log. An injection is a number of two bytes: the lower is its own, the upper its domain. A refusal leaves the whole buffer as it

@@ -17,21 +17,21 @@ fn larger(a: usize, b: usize) -> usize
 fn length_by(editions: usize, syndromes: usize, addresses: usize, injections: usize) -> usize
     ensures { result ≡ min (16 + editions + syndromes * 8 + addresses * 16 + injections * 2) 65537 }
 {
-    if log::MOST < editions {
-        return log::MOST + 1;
+    if trap_log::MOST < editions {
+        return trap_log::MOST + 1;
     }
-    if log::MOST < syndromes {
-        return log::MOST + 1;
+    if trap_log::MOST < syndromes {
+        return trap_log::MOST + 1;
     }
-    if log::MOST < addresses {
-        return log::MOST + 1;
+    if trap_log::MOST < addresses {
+        return trap_log::MOST + 1;
     }
-    if log::MOST < injections {
-        return log::MOST + 1;
+    if trap_log::MOST < injections {
+        return trap_log::MOST + 1;
     }
     let length = 16 + editions + syndromes * 8 + addresses * 16 + injections * 2;
-    if log::MOST < length {
-        log::MOST + 1
+    if trap_log::MOST < length {
+        trap_log::MOST + 1
     } else {
         length
     }
@@ -43,7 +43,7 @@ fn domains_fit(injections: &[u16]) -> bool
 {
     let mut i = 0;
     while i < injections.len() {
-        if (log::LAST_DOMAIN as u16) < injections[i] / 256 {
+        if (trap_log::LAST_DOMAIN as u16) < injections[i] / 256 {
             return false;
         }
         i += 1;
@@ -64,7 +64,7 @@ pub(crate) fn write_lists<'a, 'b>(
 {
     let addresses = larger(fars.len(), hpfars.len());
     let length = length_by(editions.len(), syndromes.len(), addresses, injections.len());
-    if log::MOST < length {
+    if trap_log::MOST < length {
         return Written::TooLong;
     }
     let fit = domains_fit(injections);

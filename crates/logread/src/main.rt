@@ -1,4 +1,6 @@
 // Reads a trap log from the file that its argument names, or from standard input, and writes it as lines of text, piece by piece.
+#![tactic(auto)]
+
 ghost use Rattle.std.specs.Prelude.{◌≤◌, ◌<◌, ◌≡◌, [], length, take, get_or};
 ghost use Rattle.io.specs.Counts.{IsPrefixLen};
 ghost use Rattle.log_pieces.specs.Text.{shown, seen_mask, pieces_of};

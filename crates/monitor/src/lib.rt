@@ -1,4 +1,6 @@
 // The one guest state that the monitor keeps, lent to the injection.
+#![tactic(auto)]
+
 ghost use Rattle.guest.specs.Promise.{Injecting};
 
 use exception::Guest;

@@ -1,5 +1,7 @@
 // Names of the Arm manual as text: what a field is called, and what its values mean, appended to a buffer as `text::append` does. Labels
 // and lists of values go by their numbers in the tables of specs/Table.antt.
+#![tactic(auto)]
+
 ghost use Rattle.text.specs.Append.{Appends};
 ghost use Rattle.names.specs.Name.{meaning_of};
 ghost use Rattle.names.specs.Table.{label_at, values_at};

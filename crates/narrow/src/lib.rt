@@ -1,9 +1,11 @@
 // Which editions a row of rules leaves, and the first rule after which none is left.
+#![tactic(auto)]
+
 ghost use Rattle.std.specs.Prelude.{◌≡◌};
 ghost use Rattle.narrow.specs.Rule.{started, leaving, kept, narrowed};
 
 // The editions that are left, and the number of the rule after which none was: 0 where some are.
-#[derive(Drop)]
+#[derive(Clone, Copy)]
 pub struct Left {
     pub mask: u32,
     pub why: u32,

@@ -1,12 +1,14 @@
 // An injection and the return right after it. Beside it the laws of the return after each injection and each delivery, and after a whole
 // nest of them.
+#![tactic(auto)]
+
 ghost use Rattle.std.specs.Prelude.{◌≡◌};
 ghost use Rattle.nest.specs.Back.{answer_number, GoingBack};
 
 use exception::Guest;
 use guest::Injection;
 
-#[derive(Drop)]
+#[derive(Clone, Copy)]
 pub enum Answer {
     // The injection's refusal.
     Uninjected(guest::Answer),
@@ -14,7 +16,7 @@ pub enum Answer {
     Resumed(resume::Answer),
 }
 
-#[derive(Drop)]
+#[derive(Clone, Copy)]
 pub struct Back {
     pub answer: Answer,
     pub state: Guest,

@@ -1,5 +1,7 @@
 // Going on from a trap for other languages: an instruction stepped over, a load or store finished, a coprocessor read or write finished, in
 // a state of 48 words that the caller lends. A record is sixteen words.
+#![tactic(auto)]
+
 ghost use Rattle.std.specs.Prelude.{◌≡◌};
 ghost use Rattle.step.specs.Condition.{passes};
 ghost use Rattle.record_words.specs.Words.{flag};

@@ -1,4 +1,6 @@
 // The readers and writers for programs in other languages: `rt staticlib knucklepin`.
+#![tactic(auto)]
+
 ghost use Rattle.std.specs.Prelude.{◌≡◌};
 ghost use Rattle.record.specs.declared.origin.Origin.{Origin};
 ghost use Rattle.packed_calls.specs.Packed.{packed_refusal, packed_read, rewritten};

@@ -1,10 +1,12 @@
 // Interrupts that wait for a guest: the queue of them, which knows nothing of the guest's state.
+#![tactic(auto)]
+
 ghost use Rattle.std.specs.Prelude.{◌≡◌, cond, []};
 ghost use Rattle.pending.specs.Plain.{code_of, same, raised, oldest, chosen};
 ghost use Rattle.pending.specs.Reading.{neighbour, list_of, mask_in, choice_of};
 
 // What may wait.
-#[derive(Drop)]
+#[derive(Clone, Copy)]
 pub enum Kind {
     Abort,
     Fiq,
@@ -13,7 +15,7 @@ pub enum Kind {
 
 // The kinds that wait, the oldest first. Each of the three kinds has two neighbours in the round abort, FIQ, IRQ, so that no value
 // of this type has a kind twice.
-#[derive(Drop)]
+#[derive(Clone, Copy)]
 pub enum Queue {
     Empty,
     One(Kind),
@@ -24,7 +26,7 @@ pub enum Queue {
 }
 
 // The mask bits of a status word: a kind is delivered only where its own is 0.
-#[derive(Drop)]
+#[derive(Clone, Copy)]
 pub struct Masks {
     pub a: bool,
     pub f: bool,
@@ -32,7 +34,7 @@ pub struct Masks {
 }
 
 // What a delivery step finds.
-#[derive(Drop)]
+#[derive(Clone, Copy)]
 pub enum Choice {
     Nothing,
     // What is delivered, and the queue that it leaves.

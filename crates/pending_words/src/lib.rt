@@ -1,5 +1,7 @@
 // A queue of waiting interrupts as a number: two bits for each kind that waits, the oldest in the lowest. 1 is an abort, 2 an FIQ and 3 an
 // IRQ.
+#![tactic(auto)]
+
 ghost use Rattle.std.specs.Prelude.{◌≡◌};
 ghost use Rattle.pending.specs.declared.Queue.{Queue};
 ghost use Rattle.pending.specs.Reading.{list_of};

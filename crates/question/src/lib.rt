@@ -2,6 +2,8 @@
 // word `short`, a short edition and a word of 8 digits.
 //
 // `parse` reads a whole line. `start`, `feed` and `finish` read one of any length, a byte at a time.
+#![tactic(auto)]
+
 ghost use Rattle.std.specs.Prelude.{◌≡◌, length};
 ghost use Rattle.line.specs.Line.{line_of};
 ghost use Rattle.question.specs.Question.{word_from, trap_of, says_short, short_of, question_of};
@@ -11,7 +13,7 @@ use line::{Line, Word};
 use text::Digit;
 
 // What a line asks.
-#[derive(Drop)]
+#[derive(Clone, Copy)]
 pub enum Question {
     Word {
         edition: u32,
@@ -120,7 +122,7 @@ pub fn parse(line: &[u8]) -> Question
 const LENGTH: usize = 52;
 
 // A line as far as it has come: its first bytes, and how many came, counted no further than one past the longest line.
-#[derive(Drop)]
+#[derive(Clone, Copy)]
 pub struct State {
     pub bytes: [u8; 52],
     pub count: usize,

@@ -1,5 +1,7 @@
 // Why no edition has a word, of a trap from AArch32: the number of the first rule that the word breaks, 0 where it breaks none. What each
 // number says in words is in crate `names`.
+#![tactic(auto)]
+
 ghost use Rattle.std.specs.Prelude.{◌≡◌};
 ghost use Rattle.reason.specs.Reason.{debug_exceptions, why_of};
 ghost use Rattle.bits.specs.Among.{among};

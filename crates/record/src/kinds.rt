@@ -2,14 +2,14 @@
 // of 40 or IL 0 at an abort, so that the writer can refuse it.
 
 // Classes 0x00, 0x0E and 0x22: the class says all.
-#[derive(Drop)]
+#[derive(Clone, Copy)]
 pub struct Plain {
     pub class: u32,
     pub il: bool,
 }
 
 // Class 0x01: a trapped WFI or WFE.
-#[derive(Drop)]
+#[derive(Clone, Copy)]
 pub struct Wfx {
     pub il: bool,
     pub cv: bool,
@@ -18,7 +18,7 @@ pub struct Wfx {
 }
 
 // Classes 0x03, 0x05 and 0x08: a trapped MCR, MRC or VMRS.
-#[derive(Drop)]
+#[derive(Clone, Copy)]
 pub struct Mcr {
     pub class: u32,
     pub il: bool,
@@ -33,7 +33,7 @@ pub struct Mcr {
 }
 
 // Classes 0x04 and 0x0C: a trapped MCRR or MRRC.
-#[derive(Drop)]
+#[derive(Clone, Copy)]
 pub struct Mcrr {
     pub class: u32,
     pub il: bool,
@@ -47,7 +47,7 @@ pub struct Mcrr {
 }
 
 // Class 0x06: a trapped LDC or STC.
-#[derive(Drop)]
+#[derive(Clone, Copy)]
 pub struct Ldc {
     pub il: bool,
     pub cv: bool,
@@ -60,7 +60,7 @@ pub struct Ldc {
 }
 
 // Class 0x07: a trapped SIMD or floating point instruction.
-#[derive(Drop)]
+#[derive(Clone, Copy)]
 pub struct Simd {
     pub il: bool,
     pub cv: bool,
@@ -68,7 +68,7 @@ pub struct Simd {
 }
 
 // Classes 0x11, 0x12 and 0x38: an SVC, an HVC or a BKPT. Classes 0x15, 0x16 and 0x17: an SVC, an HVC or an SMC of AArch64.
-#[derive(Drop)]
+#[derive(Clone, Copy)]
 pub struct Call {
     pub class: u32,
     pub il: bool,
@@ -76,7 +76,7 @@ pub struct Call {
 }
 
 // Class 0x13: a trapped SMC.
-#[derive(Drop)]
+#[derive(Clone, Copy)]
 pub struct Smc {
     pub il: bool,
     pub cv: bool,
@@ -85,7 +85,7 @@ pub struct Smc {
 }
 
 // Class 0x20.
-#[derive(Drop)]
+#[derive(Clone, Copy)]
 pub struct InstructionAbort {
     pub il: bool,
     pub set: u32,
@@ -96,7 +96,7 @@ pub struct InstructionAbort {
 }
 
 // Class 0x24.
-#[derive(Drop)]
+#[derive(Clone, Copy)]
 pub struct DataAbort {
     pub il: bool,
     pub isv: bool,
@@ -116,14 +116,14 @@ pub struct DataAbort {
 
 // Classes 0x30 and 0x3A: a breakpoint or a vector catch. The fault code is that of a debug exception, here and in the two kinds below, and
 // is no field.
-#[derive(Drop)]
+#[derive(Clone, Copy)]
 pub struct Debug {
     pub class: u32,
     pub il: bool,
 }
 
 // Class 0x32: a software step. EX tells of a load-exclusive where ISV is 1.
-#[derive(Drop)]
+#[derive(Clone, Copy)]
 pub struct Step {
     pub il: bool,
     pub isv: bool,
@@ -131,7 +131,7 @@ pub struct Step {
 }
 
 // Class 0x34.
-#[derive(Drop)]
+#[derive(Clone, Copy)]
 pub struct Watchpoint {
     pub il: bool,
     pub cm: bool,
@@ -139,7 +139,7 @@ pub struct Watchpoint {
 }
 
 // Class 0x2F: an SError interrupt. The code is DFSC.
-#[derive(Drop)]
+#[derive(Clone, Copy)]
 pub struct SError {
     pub il: bool,
     pub aet: u32,
@@ -148,7 +148,7 @@ pub struct SError {
 }
 
 // Class 0x18: a trapped MSR, MRS or System instruction.
-#[derive(Drop)]
+#[derive(Clone, Copy)]
 pub struct System {
     pub il: bool,
     pub op0: u32,
@@ -161,7 +161,7 @@ pub struct System {
 }
 
 // A kind of record with several classes holds the class; one with a single class holds none.
-#[derive(Drop)]
+#[derive(Clone, Copy)]
 pub enum Record {
     Plain(Plain),
     Wfx(Wfx),
@@ -182,7 +182,7 @@ pub enum Record {
 
 // What is asked of every record before its fields: its class, whether its kind has that class, IL, and a data abort's ISV, which IL hangs
 // on (a software step's is a field like any other).
-#[derive(Drop)]
+#[derive(Clone, Copy)]
 pub struct Head {
     pub class: u32,
     pub own: bool,
@@ -192,7 +192,7 @@ pub struct Head {
 
 // What sort of exception a record tells of, as far as rules beyond its layout go by it: a plain one; one that is no abort and has a virtual
 // address, a PC alignment fault or a watchpoint; an abort, with its fields; or an SError interrupt, with its fields.
-#[derive(Drop)]
+#[derive(Clone, Copy)]
 pub enum Sort {
     Plain,
     Addressed,
@@ -202,7 +202,7 @@ pub enum Sort {
 }
 
 // What the address registers tell: nothing; FAR, the virtual address; or what an abort's FnV, S1PTW and fault code say of FAR and HPFAR.
-#[derive(Drop)]
+#[derive(Clone, Copy)]
 pub enum Addresses {
     None,
     Virtual,

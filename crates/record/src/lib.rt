@@ -1,4 +1,6 @@
 // Records of syndrome words: their kinds, what a word's bits hold, and what a record tells beside its fields. Nothing is judged here.
+#![tactic(auto)]
+
 mod class;
 mod kinds;
 mod origin;

@@ -3,7 +3,7 @@ ghost use Rattle.std.specs.Prelude.{◌≡◌};
 ghost use Rattle.record.specs.Origin.{from_a_arch64};
 
 // The execution state that the guest's code ran in.
-#[derive(Drop)]
+#[derive(Clone, Copy)]
 pub enum Origin {
     AArch32,
     AArch64,

@@ -1,4 +1,6 @@
 // The record of the long form whose words some words are. Others are the words of none, and are taken for a record that no edition has.
+#![tactic(auto)]
+
 ghost use Rattle.std.specs.Prelude.{◌≡◌};
 ghost use Rattle.record_of_words.specs.Reading.{plain_in, wfx_in, mcr_in, mcrr_in, ldc_in, simd_in, call_in, smc_in, instruction_abort_in};
 ghost use Rattle.record_of_words.specs.Reading.{data_abort_in, debug_in, step_in, watchpoint_in, serror_in, system_in, no_record};

@@ -1,5 +1,7 @@
 // A record of the long form as sixteen words, for callers that have no enums: its kind's number, its fields in the order of its struct, a
 // flag as 0 or 1, and zeros after them.
+#![tactic(auto)]
+
 ghost use Rattle.std.specs.Prelude.{◌≡◌};
 ghost use Rattle.record_words.specs.Words.{plain_words, wfx_words, mcr_words, mcrr_words, ldc_words, simd_words, call_words, smc_words};
 ghost use Rattle.record_words.specs.Words.{instruction_abort_words, data_abort_words, debug_words, step_words, watchpoint_words};

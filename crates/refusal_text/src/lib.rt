@@ -1,4 +1,6 @@
 // A refusal of a word as lines of text, appended to a buffer as `text::append` does.
+#![tactic(auto)]
+
 ghost use Rattle.std.specs.Prelude.{true, false, cond, [], ◌++◌};
 ghost use Rattle.bits.specs.Field.{bit_of};
 ghost use Rattle.text.specs.Append.{Appends};

@@ -1,4 +1,6 @@
 // The return from an exception: the guest goes back to where it was.
+#![tactic(auto)]
+
 ghost use Rattle.std.specs.Prelude.{◌≡◌};
 ghost use Rattle.resume.specs.Answer.{answer_number};
 ghost use Rattle.resume.specs.Return.{banked, saved_of, restored};
@@ -10,7 +12,7 @@ use signed::{Signed, difference};
 use status::{by_mode, link_register, sound};
 
 // Every refusal's number is 9.
-#[derive(Drop)]
+#[derive(Clone, Copy)]
 pub enum Answer {
     Returned,
     // The status word's mode, or a bit of its 24:21, is wrong.
@@ -21,7 +23,7 @@ pub enum Answer {
     UnsoundSaved,
 }
 
-#[derive(Drop)]
+#[derive(Clone, Copy)]
 pub struct Resumed {
     pub answer: Answer,
     pub state: Guest,

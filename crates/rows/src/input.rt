@@ -7,7 +7,7 @@ use libc::STDIN_FILENO;
 use text::Digit;
 
 // A line as far as it has come.
-#[derive(Drop)]
+#[derive(Clone, Copy)]
 struct Line {
     // Whether no byte has come.
     empty: bool,
@@ -114,7 +114,7 @@ fn feed(line: Line, byte: u8) -> Line
 }
 
 // The byte that was read last, or that the input has ended, and the bytes of the chunk that are still to come.
-#[derive(Drop)]
+#[derive(Clone, Copy)]
 struct Place {
     byte: u8,
     ended: bool,
@@ -153,7 +153,7 @@ fn next_byte(chunk: &mut [u8; 512], before: Place) -> Place {
 }
 
 // How far the input has been read.
-#[derive(Drop)]
+#[derive(Clone, Copy)]
 pub struct Reader {
     // The row that was read last.
     pub row: Row,

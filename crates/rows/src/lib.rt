@@ -2,6 +2,8 @@
 //
 // Rows and replies are values: what a call is asked and what it answers stands in functions that borrow nothing, which are proved at
 // little cost. Input and output are borrowed here alone.
+#![tactic(auto)]
+
 mod input;
 mod reply;
 mod row;

@@ -5,7 +5,7 @@ ghost use Rattle.rows.specs.Reply.{no_row, with_one, with_first, with_change, wi
 use libc::STDOUT_FILENO;
 
 // What a row is answered by. No call answers with more numbers.
-#[derive(Drop)]
+#[derive(Clone, Copy)]
 pub struct Reply {
     count: usize,
     numbers: [u64; 256],

@@ -3,7 +3,7 @@ ghost use Rattle.std.specs.Prelude.{◌≡◌, length};
 ghost use Rattle.rows.specs.Row.{with_letter, spelled_below, spells, number_at, word_at, are_words, is_words, words_at};
 
 // A row, or a line that is none: its word is 0 then, which no letters spell.
-#[derive(Drop)]
+#[derive(Clone, Copy)]
 pub struct Row {
     // The word as `spelled` makes a number of it.
     pub(crate) word: u64,

@@ -1,4 +1,6 @@
 // Which editions have a record of a syndrome word.
+#![tactic(auto)]
+
 mod had;
 mod il;
 

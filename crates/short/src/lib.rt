@@ -2,6 +2,8 @@
 //
 // A word has one record, whatever the edition: what stands at the bits of its class. A record has one set of editions, its mask. An
 // edition only asks whether its bit stands in the mask.
+#![tactic(auto)]
+
 ghost use Rattle.std.specs.Prelude.{◌≡◌};
 ghost use Rattle.short_rule.specs.Edition.{mask_of};
 ghost use Rattle.short.specs.Inner.{makes};

@@ -1,4 +1,6 @@
 // Syndrome words of the short form (HSR) for other languages: read, written, and a short record changed to a long one.
+#![tactic(auto)]
+
 ghost use Rattle.std.specs.Prelude.{[], ◌∷◌, ◌≡◌};
 ghost use Rattle.edition.specs.Judge.{refusal_mask, refusal_count};
 ghost use Rattle.short.specs.Reading.{read_of};

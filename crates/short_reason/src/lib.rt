@@ -1,5 +1,7 @@
 // Why no short edition has a word of the short form: the number of the first rule that the word breaks, 0 where it breaks none. What each
 // number says in words is in crate `names`.
+#![tactic(auto)]
+
 ghost use Rattle.std.specs.Prelude.{◌≡◌};
 ghost use Rattle.bits.specs.Decide.{decide};
 ghost use Rattle.short_record.specs.declared.kinds.Record.{Record};

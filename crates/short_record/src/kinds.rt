@@ -4,7 +4,7 @@
 use record::{Call, Plain, Smc, Wfx};
 
 // Classes 0x03, 0x05 and 0x08: a trapped MCR, MRC or VMRS.
-#[derive(Drop)]
+#[derive(Clone, Copy)]
 pub struct Mcr {
     pub class: u32,
     pub il: bool,
@@ -19,7 +19,7 @@ pub struct Mcr {
 }
 
 // Classes 0x04 and 0x0C: a trapped MCRR or MRRC.
-#[derive(Drop)]
+#[derive(Clone, Copy)]
 pub struct Mcrr {
     pub class: u32,
     pub il: bool,
@@ -33,7 +33,7 @@ pub struct Mcrr {
 }
 
 // Class 0x06: a trapped LDC or STC.
-#[derive(Drop)]
+#[derive(Clone, Copy)]
 pub struct Ldc {
     pub il: bool,
     pub cv: bool,
@@ -46,7 +46,7 @@ pub struct Ldc {
 }
 
 // Class 0x07: a trapped SIMD or floating point instruction.
-#[derive(Drop)]
+#[derive(Clone, Copy)]
 pub struct Simd {
     pub il: bool,
     pub cv: bool,
@@ -56,7 +56,7 @@ pub struct Simd {
 }
 
 // Class 0x20.
-#[derive(Drop)]
+#[derive(Clone, Copy)]
 pub struct InstructionAbort {
     pub il: bool,
     pub fnv: bool,
@@ -66,7 +66,7 @@ pub struct InstructionAbort {
 }
 
 // Class 0x24. `aet` is bits 11:10: AET of an SError interrupt, code 0x11; of every other abort bit 11 is 0 and bit 10 is FnV.
-#[derive(Drop)]
+#[derive(Clone, Copy)]
 pub struct DataAbort {
     pub il: bool,
     pub isv: bool,
@@ -83,7 +83,7 @@ pub struct DataAbort {
 }
 
 // A kind of record with several classes holds the class; one with a single class holds none.
-#[derive(Drop)]
+#[derive(Clone, Copy)]
 pub enum Record {
     Plain(Plain),
     Wfx(Wfx),

@@ -1,4 +1,6 @@
 // Records of the short form's words (HSR): their kinds, and what a word's bits hold. Nothing is judged here.
+#![tactic(auto)]
+
 mod class;
 mod kinds;
 mod split;

@@ -1,4 +1,6 @@
 // Which short editions have a record of the short form.
+#![tactic(auto)]
+
 mod code;
 mod il;
 mod mask;

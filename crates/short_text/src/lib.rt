@@ -1,5 +1,7 @@
 // What is said of a word of the short form, and its record as lines of text, as crates explain_text and record_text have them of the long
 // form.
+#![tactic(auto)]
+
 ghost use Rattle.std.specs.Prelude.{◌<◌, ◌≡◌, ◌++◌, true};
 ghost use Rattle.refusal_text.specs.Refusal.{refusal_text};
 ghost use Rattle.text.specs.Append.{Appends};

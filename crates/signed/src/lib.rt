@@ -1,11 +1,13 @@
 // A signed number of 32 bits, and a word plus or less one.
+#![tactic(auto)]
+
 ghost use Rattle.std.specs.Prelude.{◌≡◌};
 ghost use Rattle.signed.specs.Signed.{signed, sum_of, difference_of};
 
 use std::num::{wrapping_add_u32, wrapping_sub_u32};
 
 // By its sign and its size, which takes all 32 bits: an offset register counts as unsigned.
-#[derive(Drop)]
+#[derive(Clone, Copy)]
 pub enum Signed {
     Plus(u32),
     Minus(u32),

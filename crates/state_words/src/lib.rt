@@ -1,5 +1,7 @@
 // A guest's state as 48 words, in document 01's order: 31 registers, PC, the status word, five saved status words, DFSR, IFSR, DFAR, IFAR,
 // SCTLR, VBAR, TTBCR, and the three marks, each of them set where its word isn't 0.
+#![tactic(auto)]
+
 ghost use Rattle.std.specs.Prelude.{◌≡◌, ◌++◌, length, take, drop};
 ghost use Rattle.state_words.specs.Words.{is_mark, saved_of, faults_of, marks_of, state_of, words_of};
 

@@ -1,5 +1,7 @@
 // The status word (CPSR) of an AArch32 guest: which words are sound, the word that an exception's handler finds, and the
 // word that the hypervisor saved of it.
+#![tactic(auto)]
+
 ghost use Rattle.std.specs.Prelude.{◌≡◌, ◌*◌, ◌^◌};
 ghost use Rattle.status.specs.Mode.{is_mode, mode_number};
 ghost use Rattle.status.specs.Sound.{allowed, sound};
@@ -12,7 +14,7 @@ ghost use Rattle.status.specs.Register.{by_mode, link_register, register_number,
 use bits::bit;
 
 // The modes that an exception enters.
-#[derive(Drop)]
+#[derive(Clone, Copy)]
 pub enum Mode {
     Supervisor,
     Abort,
@@ -22,14 +24,14 @@ pub enum Mode {
 }
 
 // Where a register of the guest is held: its AArch64 number.
-#[derive(Drop)]
+#[derive(Clone, Copy)]
 pub enum Held {
     Register(u32),
     Nowhere,
 }
 
 // The features whose bits a guest's status word has.
-#[derive(Drop)]
+#[derive(Clone, Copy)]
 pub struct Marks {
     pub pan: bool,
     pub ssbs: bool,
@@ -37,7 +39,7 @@ pub struct Marks {
 }
 
 // What the hypervisor's saved word is as a status word of the guest.
-#[derive(Drop)]
+#[derive(Clone, Copy)]
 pub enum FromSpsr {
     Status(u32),
     // Its mode, or a bit of its 24:21, is wrong.
@@ -45,7 +47,7 @@ pub enum FromSpsr {
 }
 
 // What a status word of the guest is as the word that the hypervisor's return takes.
-#[derive(Drop)]
+#[derive(Clone, Copy)]
 pub enum ToSpsr {
     Spsr(u32),
     // Its mode, or a bit of its 24:21, is wrong.

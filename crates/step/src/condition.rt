@@ -7,7 +7,7 @@ use record::Record;
 use status::{it_of, t32};
 
 // What a record says of its instruction's condition.
-#[derive(Drop)]
+#[derive(Clone, Copy)]
 pub(crate) enum Condition {
     // The instruction has none, or is known to have passed it.
     Passed,

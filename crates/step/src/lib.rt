@@ -1,4 +1,6 @@
 // Going on after a trap: whether the trapped instruction counts, and the state past it.
+#![tactic(auto)]
+
 mod condition;
 mod over;
 mod past;

@@ -9,7 +9,7 @@ use exception::Guest;
 use record::{Origin, Record, Sort, head, sort};
 use status::sound;
 
-#[derive(Drop)]
+#[derive(Clone, Copy)]
 pub enum Answer {
     Stepped,
     // No edition has the record.
@@ -20,7 +20,7 @@ pub enum Answer {
     NotStepped,
 }
 
-#[derive(Drop)]
+#[derive(Clone, Copy)]
 pub struct SteppedOver {
     pub answer: Answer,
     pub state: Guest,

@@ -2,6 +2,8 @@
 // standard error, in the system's words.
 //
 // No contract can say which bytes were read or written, or why a call failed.
+#![tactic(auto)]
+
 ghost use Rattle.std.specs.Prelude.{◌≡◌, ◌≤◌, length};
 ghost use Rattle.io.specs.Counts.{IsPrefixLen};
 ghost use Rattle.stream.specs.Piece.{piece_of};
@@ -9,7 +11,7 @@ ghost use Rattle.stream.specs.Piece.{piece_of};
 use libc::{EINTR, STDOUT_FILENO};
 
 // What was read: how many bytes, none where the input has ended, and whether a read failed.
-#[derive(Drop)]
+#[derive(Clone, Copy)]
 pub struct Piece {
     pub count: usize,
     pub failed: bool,

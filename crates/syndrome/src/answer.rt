@@ -3,20 +3,20 @@ use edition::Refusal;
 use record::Record;
 use registers::Esr;
 
-#[derive(Drop)]
+#[derive(Clone, Copy)]
 pub enum Read {
     Taken(Record),
     Refused(Refusal),
 }
 
-#[derive(Drop)]
+#[derive(Clone, Copy)]
 pub enum Written {
     Word(Esr),
     Refused(Refusal),
 }
 
 // A record written in one edition and read in another: the writer's refusal, or what the reader answers.
-#[derive(Drop)]
+#[derive(Clone, Copy)]
 pub enum Carried {
     Unwritten(Refusal),
     Read(Read),

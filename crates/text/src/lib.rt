@@ -1,13 +1,15 @@
 // ASCII text: digits read, and bytes and numbers appended to a buffer.
 //
 // A text is the first `at` bytes of a buffer. What is appended goes from `at` on, and what has no room there is left out.
+#![tactic(auto)]
+
 ghost use Rattle.std.specs.Prelude.{◌≡◌};
 ghost use Rattle.text.specs.Digit.{hex_digit};
 ghost use Rattle.text.specs.Append.{Appends};
 ghost use Rattle.text.specs.Numeral.{decimal_text, hex_text};
 
 // The value of a digit, or that a byte is none.
-#[derive(Drop)]
+#[derive(Clone, Copy)]
 pub enum Digit {
     Value(u32),
     None,

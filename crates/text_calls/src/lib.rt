@@ -1,5 +1,7 @@
 // What the program `explain` says of a word, of a whole trap and of a word of the short form, for other languages: as text in a buffer that
 // the caller lends.
+#![tactic(auto)]
+
 ghost use Rattle.text.specs.Append.{Appends};
 ghost use Rattle.explain_text.specs.Word.{word_said};
 ghost use Rattle.explain_text.specs.Trap.{trap_said};

@@ -1,4 +1,6 @@
 // The whole trap: a syndrome with exactly the addresses that are known, from the origin that the caller says.
+#![tactic(auto)]
+
 ghost use Rattle.std.specs.Prelude.{◌≡◌};
 ghost use Rattle.trap.specs.Trap.{trap_from};
 ghost use Rattle.trap.specs.Answer.{answer_record, TrapReading};
@@ -11,7 +13,7 @@ use syndrome::Read;
 pub use trap_refusal::{TrapRefusal, count, mask, number};
 
 // An instruction or data abort.
-#[derive(Drop)]
+#[derive(Clone, Copy)]
 pub struct Abort {
     pub syndrome: Record,
     pub address: VirtualAddress,
@@ -19,21 +21,21 @@ pub struct Abort {
 }
 
 // An exception that is no abort and always tells its virtual address: a PC alignment fault or a watchpoint.
-#[derive(Drop)]
+#[derive(Clone, Copy)]
 pub struct Addressed {
     pub syndrome: Record,
     pub address: u64,
 }
 
 // A trap with the addresses that its class has.
-#[derive(Drop)]
+#[derive(Clone, Copy)]
 pub enum Trap {
     Abort(Abort),
     Addressed(Addressed),
     Plain(Record),
 }
 
-#[derive(Drop)]
+#[derive(Clone, Copy)]
 pub enum Answer {
     Shown(Trap),
     Refused(TrapRefusal),
@@ -90,7 +92,7 @@ pub fn read(origin: Origin, edition: u32, esr: Esr, far: Far, hpfar: Hpfar) -> A
 }
 
 // One trap in two editions: what both show, or the refusal of the first that refuses it.
-#[derive(Drop)]
+#[derive(Clone, Copy)]
 pub enum Both {
     Shown(Trap, Trap),
     Refused(TrapRefusal),

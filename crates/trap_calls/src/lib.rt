@@ -1,4 +1,6 @@
 // Whole traps for other languages: read, with the record in sixteen words that the caller lends.
+#![tactic(auto)]
+
 ghost use Rattle.std.specs.Prelude.{◌≡◌};
 ghost use Rattle.trap.specs.Answer.{answer_of};
 ghost use Rattle.esr_calls.specs.Calls.{origin_of};

@@ -1,11 +1,13 @@
 // A refusal of a whole trap, with its number, mask and number of editions.
+#![tactic(auto)]
+
 ghost use Rattle.std.specs.Prelude.{◌≡◌};
 ghost use Rattle.trap_refusal.specs.Numbers.{trap_number, trap_mask, trap_count};
 
 use edition::Refusal;
 
 // Why a trap is refused: as its syndrome is, or by an address register.
-#[derive(Drop)]
+#[derive(Clone, Copy)]
 pub enum TrapRefusal {
     // 1 to 6.
     Syndrome(Refusal),

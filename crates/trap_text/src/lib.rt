@@ -1,5 +1,7 @@
 // The whole trap's answer in an edition as a line of text, and a trap as its lines in several editions, explained where that is asked for,
 // appended to a buffer as `text::append` does.
+#![tactic(auto)]
+
 ghost use Rattle.std.specs.Prelude.{cond, []};
 ghost use Rattle.bits.specs.Field.{bit_of};
 ghost use Rattle.edition.specs.Feature.{editions};

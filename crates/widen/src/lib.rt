@@ -1,5 +1,7 @@
 // The change of a record of the short form to one of the long form: registers of the guest's mode become registers in the AArch64
 // numbering.
+#![tactic(auto)]
+
 ghost use Rattle.std.specs.Prelude.{◌≡◌};
 ghost use Rattle.widen.specs.Register.{mapped, base, uses_pc};
 ghost use Rattle.widen.specs.Long.{long_plain, long_mcr, long_mcrr, long_ldc, long_simd, long_instruction_abort, long_data_abort, long_of};
@@ -9,7 +11,7 @@ use record::Origin;
 use short_record::Record;
 use status::Held;
 
-#[derive(Drop)]
+#[derive(Clone, Copy)]
 pub enum Widened {
     Long(record::Record),
     // 9: no mode that a guest runs in.

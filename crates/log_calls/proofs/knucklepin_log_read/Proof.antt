@@ -3,7 +3,7 @@
 use borrow.Author.Rules.{rules}
 use mathlib.Core.Path.{ap, ◌∙◌}
 use mathlib.Core.List.{[], ◌∷◌}
-use Rattle.log.specs.Answer.{number_of, gone_in, section_in}
+use Rattle.trap_log.specs.Answer.{number_of, gone_in, section_in}
 use Rattle.log_calls.proofs.knucklepin_log_read.Statement.{statement}
 use Rattle.log_calls.proofs.knucklepin_log_read.Tie as tie
 

@@ -3,7 +3,7 @@
 use borrow.Author.Rules.{rules}
 use mathlib.Core.Path.{sym, ◌∙◌}
 use borrow.Author.Tests.{eq-eqb, ne_eqb}
-use Rattle.log.specs.Answer.{number_of}
+use Rattle.trap_log.specs.Answer.{number_of}
 use Rattle.text.proofs.Appending.{appends_both, appends_none}
 use Rattle.log_pieces.proofs.first_lines.Statement.{statement}
 use Rattle.log_pieces.proofs.first_lines.Tie as tie

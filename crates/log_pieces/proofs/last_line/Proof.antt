@@ -7,8 +7,8 @@ use mathlib.Core.List.{[]}
 use Prim.Native.Nat.{◌-◌}
 use native.Mathlib.Omega.{arith}
 use borrow.Author.Tests.{eq-eqb, ne_eqb}
-use Rattle.log.specs.Answer.{number_of, section_in, read_of}
-use Rattle.log.proofs.Answers.{section_named}
+use Rattle.trap_log.specs.Answer.{number_of, section_in, read_of}
+use Rattle.trap_log.proofs.Answers.{section_named}
 use Rattle.log_text.specs.Cut.{cut_text}
 use Rattle.text.proofs.Appending.{appends_none}
 use Rattle.log_pieces.specs.Text.{cut_in}

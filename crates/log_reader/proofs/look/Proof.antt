@@ -48,10 +48,10 @@ use Rattle.log_section.specs.Look.{look_at}
 use Rattle.log_section.specs.declared.entry.Look.{Look}
 use Rattle.log_section.specs.contracts.entry.Look as K
 use Rattle.log_section.proofs.entry.Look.TheLaws as K'
-use Rattle.log.proofs.look_at as look_at
-use Rattle.log.proofs.look_at.Symbol as look-at-def
-use Rattle.log.proofs.look_at.Symbol.{name as #log·look-at}
-use Rattle.log.proofs.look_at.Met as look-at-thm
+use Rattle.trap_log.proofs.look_at as look_at
+use Rattle.trap_log.proofs.look_at.Symbol as look-at-def
+use Rattle.trap_log.proofs.look_at.Symbol.{name as #log·look-at}
+use Rattle.trap_log.proofs.look_at.Met as look-at-thm
 use Rattle.log_reader.specs.declared.LogReader.{LogReader}
 use Rattle.log_reader.specs.contracts.LogReader as T
 use Rattle.log_reader.proofs.LogReader.TheLaws as T'

@@ -49,10 +49,10 @@ use Rattle.log_section.specs.Look.{skip_from}
 use Rattle.log_section.specs.declared.entry.Place.{Place}
 use Rattle.log_section.specs.contracts.entry.Place as K
 use Rattle.log_section.proofs.entry.Place.TheLaws as K'
-use Rattle.log.proofs.skip as skipped
-use Rattle.log.proofs.skip.Symbol as skipped-def
-use Rattle.log.proofs.skip.Symbol.{name as #log·skip}
-use Rattle.log.proofs.skip.Met as skipped-thm
+use Rattle.trap_log.proofs.skip as skipped
+use Rattle.trap_log.proofs.skip.Symbol as skipped-def
+use Rattle.trap_log.proofs.skip.Symbol.{name as #log·skip}
+use Rattle.trap_log.proofs.skip.Met as skipped-thm
 use Rattle.log_reader.specs.declared.LogReader.{LogReader}
 use Rattle.log_reader.specs.contracts.LogReader as T
 use Rattle.log_reader.proofs.LogReader.TheLaws as T'

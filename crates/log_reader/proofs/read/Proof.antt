@@ -43,14 +43,14 @@ use denote.Triple.Table.{entered, cited}
 use denote.Triple.Walked.{says, Stays, stay_none, walk_of, Goes-none, Walks, ends_at, walked, walk_Meets}
 use denote.Exit.{yes}
 use denote.Triple.Clauses.{ensured, lasts}
-use Rattle.log.specs.Answer.{Reading}
-use Rattle.log.specs.declared.answer.Read.{Read}
-use Rattle.log.specs.contracts.answer.Read as K
-use Rattle.log.proofs.answer.Read.TheLaws as K'
-use Rattle.log.specs.contracts.read as answered
-use Rattle.log.proofs.read.Symbol as answered-def
-use Rattle.log.proofs.read.Symbol.{name as #log·read}
-use Rattle.log.proofs.read.Met as answered-thm
+use Rattle.trap_log.specs.Answer.{Reading}
+use Rattle.trap_log.specs.declared.answer.Read.{Read}
+use Rattle.trap_log.specs.contracts.answer.Read as K
+use Rattle.trap_log.proofs.answer.Read.TheLaws as K'
+use Rattle.trap_log.specs.contracts.read as answered
+use Rattle.trap_log.proofs.read.Symbol as answered-def
+use Rattle.trap_log.proofs.read.Symbol.{name as #log·read}
+use Rattle.trap_log.proofs.read.Met as answered-thm
 use Rattle.log_reader.specs.declared.LogReader.{LogReader}
 use Rattle.log_reader.specs.contracts.LogReader as T
 use Rattle.log_reader.proofs.LogReader.TheLaws as T'

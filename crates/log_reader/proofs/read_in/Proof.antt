@@ -40,10 +40,10 @@ use denote.Triple.Table.{entered, cited}
 use denote.Triple.Walked.{says, Stays, stay_none_slice, walk_of, Goes-none_slice, Walks, ends_at, walked, walk_Meets}
 use denote.Exit.{yes}
 use denote.Triple.Clauses.{ensured, lasts}
-use Rattle.log.specs.Answer.{Reading}
-use Rattle.log.specs.declared.answer.Read.{Read}
-use Rattle.log.specs.contracts.answer.Read as K
-use Rattle.log.proofs.answer.Read.TheLaws as K'
+use Rattle.trap_log.specs.Answer.{Reading}
+use Rattle.trap_log.specs.declared.answer.Read.{Read}
+use Rattle.trap_log.specs.contracts.answer.Read as K
+use Rattle.trap_log.proofs.answer.Read.TheLaws as K'
 use Rattle.log_reader.specs.declared.LogReader.{LogReader}
 use Rattle.log_reader.specs.contracts.LogReader as T
 use Rattle.log_reader.proofs.LogReader.TheLaws as T'

@@ -2,7 +2,7 @@
 -- Assumes nothing.
 use borrow.Author.Rules.{rules}
 use mathlib.Core.Path.{◌≡◌, refl, sym, ap, ◌∙◌}
-use Rattle.log.specs.Answer.{number_of, read_of}
+use Rattle.trap_log.specs.Answer.{number_of, read_of}
 use Rattle.log_rewrite.specs.Rewrite.{Taken}
 use Rattle.log_rewrite.specs.declared.Rewritten.TheVariants.{Unread}
 use Rattle.log_rewrite.proofs.Laws.{promised, refused_again, rewritten_so}

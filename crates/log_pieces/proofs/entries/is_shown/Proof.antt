@@ -2,7 +2,7 @@
 -- Assumes nothing.
 use borrow.Author.Rules.{rules}
 use mathlib.Core.Path.{ap, ◌∙◌}
-use Rattle.log.specs.Answer.{number_of}
+use Rattle.trap_log.specs.Answer.{number_of}
 use Rattle.log_pieces.proofs.Shown.{shown_accepted, shown_by_thirteen}
 use Rattle.log_pieces.proofs.entries.is_shown.Statement.{statement}
 use Rattle.log_pieces.proofs.entries.is_shown.Tie as tie

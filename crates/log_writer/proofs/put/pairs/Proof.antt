@@ -10,7 +10,7 @@ use Rattle.log_section.specs.Number.{little}
 use Rattle.log_section.specs.Log.{Address, pair, nowhere, entry_bytes}
 use Rattle.log_section.proofs.Numbers.{length_little}
 use Rattle.log_writer.proofs.Putting.{paired_length, pair_stored, Putting, begun, put_one, put_all, section_put}
-use Rattle.log.proofs.RoundTrip.{pair_sized}
+use Rattle.trap_log.proofs.RoundTrip.{pair_sized}
 use Rattle.log_writer.specs.Lists.{paired}
 use Rattle.log_writer.proofs.put.pairs.Statement.{statement}
 use Rattle.log_writer.proofs.put.pairs.Tie as tie

@@ -8,11 +8,11 @@ use native.Mathlib.Omega.{arith}
 use borrow.Author.Tests.{le-leb, lt-leb}
 use lib.ListN.{length}
 use Rattle.log_section.specs.Section.{count_after}
-use Rattle.log.specs.Answer.{read_of}
-use Rattle.log.specs.Inner.{editions_in}
-use Rattle.log.proofs.Answers.{promised}
-use Rattle.log.proofs.read.Statement.{statement}
-use Rattle.log.proofs.read.Tie as tie
+use Rattle.trap_log.specs.Answer.{read_of}
+use Rattle.trap_log.specs.Inner.{editions_in}
+use Rattle.trap_log.proofs.Answers.{promised}
+use Rattle.trap_log.proofs.read.Statement.{statement}
+use Rattle.trap_log.proofs.read.Tie as tie
 
 returns : tie.Need-returns
 unfolding read_of

@@ -15,9 +15,9 @@ use Rattle.bits.proofs.Deciding.{all_pass}
 use Rattle.log_section.specs.Section.{injection_size, sizes, count_of, end_of, whole_of, after_of, rest_after, count_after}
 use Rattle.log_section.specs.Log.{Address, Entries, byte, word, pair, injection, byte_in, bytes_word, pair_in, domains_fit, section_bytes, entries_in}
 use Rattle.log_section.specs.Log.{log_of, body_after, injections_of, entries_of, gone_through}
-use Rattle.log.specs.Answer.{read_tests, read_of}
-use Rattle.log.specs.declared.answer.Read.TheVariants.{Accepted}
-use Rattle.log.proofs.Answers.{Gone, read_gone, all_passed}
+use Rattle.trap_log.specs.Answer.{read_tests, read_of}
+use Rattle.trap_log.specs.declared.answer.Read.TheVariants.{Accepted}
+use Rattle.trap_log.proofs.Answers.{Gone, read_gone, all_passed}
 use Rattle.log_section.proofs.Numbers.{length_little, number_little, little_number, bytes_drop, bytes_take}
 use Rattle.log_section.proofs.Found.{Whole, whole_is}
 use Rattle.log_section.proofs.Codec.{Each, Stands, section_length, section_stands, section_read, section_again, entries_count}

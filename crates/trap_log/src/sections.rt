@@ -4,7 +4,7 @@
 ghost use Rattle.std.specs.Prelude.{◌≡◌, ◌+◌, ◌*◌, ◌≤◌, ◌<◌, ◌^◌, length, drop};
 ghost use Rattle.log_section.specs.Section.{injection_size};
 ghost use Rattle.log_section.specs.Log.{injection_in, entries_in, domains_fit};
-ghost use Rattle.log.specs.Inner.{editions_in, syndromes_in, addresses_in, injections_in};
+ghost use Rattle.trap_log.specs.Inner.{editions_in, syndromes_in, addresses_in, injections_in};
 
 use super::answer::Read;
 use log_section::{ADDRESS, EDITION, INJECTION, SYNDROME, Section, front};

@@ -3,8 +3,8 @@ use Rattle.std.specs.Prelude.{ℕ, ◌+◌, Bool, List, [], ◌∷◌, eqb, leng
 use Rattle.bits.specs.Decide.{needs, decide}
 use Rattle.log_section.specs.Section.{injection_size, count_of, whole_of, after_of}
 use Rattle.log_section.specs.Log.{injection_in, entries_in, domains_fit}
-use Rattle.log.specs.declared.answer.Read.{Read}
-use Rattle.log.specs.declared.answer.Read.TheVariants.{Accepted, CutShort, LeftOver, Unequal, WideDomain}
+use Rattle.trap_log.specs.declared.answer.Read.{Read}
+use Rattle.trap_log.specs.declared.answer.Read.TheVariants.{Accepted, CutShort, LeftOver, Unequal, WideDomain}
 
 -- nothing is left over after the last section, the counts agree, and each domain is at most 15
 abbrev pub injections_in : List ℕ → ℕ → Bool → Read

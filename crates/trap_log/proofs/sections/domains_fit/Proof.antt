@@ -10,8 +10,8 @@ use Rattle.log_section.specs.Section.{injection_size}
 use Rattle.log_section.specs.Log.{injection_in, domain_of, domains_fit, entries_in}
 use Rattle.log_section.proofs.Codec.{entries_count}
 use Rattle.log_section.proofs.Domains.{domain_at, wide_here, fits_here, none_left}
-use Rattle.log.proofs.sections.domains_fit.Statement.{statement}
-use Rattle.log.proofs.sections.domains_fit.Tie as tie
+use Rattle.trap_log.proofs.sections.domains_fit.Statement.{statement}
+use Rattle.trap_log.proofs.sections.domains_fit.Tie as tie
 
 abbrev injections : List ℕ → ℕ → List ℕ
 injections s count = entries_in injection_size injection_in count (drop 4 s)

@@ -4,8 +4,8 @@ use Rattle.std.specs.Prelude.{ℕ, ◌≡◌, cond, List, [], ◌∷◌, leb, eq
 use Rattle.bits.specs.Decide.{Test, needs, decide}
 use Rattle.log_section.specs.Section.{rest_after, count_after, whole_after}
 use Rattle.log_section.specs.Log.{domains_fit, injections_of, gone_through}
-use Rattle.log.specs.declared.answer.Read.{Read}
-use Rattle.log.specs.declared.answer.Read.TheVariants.{Accepted, TooLong, CutShort, LeftOver, Unequal, WideDomain}
+use Rattle.trap_log.specs.declared.answer.Read.{Read}
+use Rattle.trap_log.specs.declared.answer.Read.TheVariants.{Accepted, TooLong, CutShort, LeftOver, Unequal, WideDomain}
 
 abbrev pub number_of : Read → ℕ
 number_of (Accepted gone) = 0

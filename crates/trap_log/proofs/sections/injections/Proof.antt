@@ -11,8 +11,8 @@ use lib.ListN.{length, drop, length-drop}
 use Rattle.log_section.specs.Section.{injection_size, count_of, end_of, after_of}
 use Rattle.log_section.specs.Log.{injection_in, domains_fit, entries_in}
 use Rattle.log_section.proofs.Found.{Found, found, not_found, ends_within, count_within, not_true, not_false}
-use Rattle.log.proofs.sections.injections.Statement.{statement}
-use Rattle.log.proofs.sections.injections.Tie as tie
+use Rattle.trap_log.proofs.sections.injections.Statement.{statement}
+use Rattle.trap_log.proofs.sections.injections.Tie as tie
 
 -- what the section's reader tells where it found one
 known : (c : tie.After-count)

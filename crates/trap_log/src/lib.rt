@@ -1,7 +1,9 @@
 // A trap log: what a board saw, in four sections of bytes that can be sent.
 //
 // How a log is read, and the sections and entries of log_section, handed on. Entries are carried and not judged, but for a domain's size.
-ghost use Rattle.log.specs.Answer.{Reading};
+#![tactic(auto)]
+
+ghost use Rattle.trap_log.specs.Answer.{Reading};
 
 mod answer;
 mod sections;

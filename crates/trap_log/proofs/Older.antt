@@ -10,14 +10,14 @@ use lib.Dec.{lit≤}
 use lib.ListN.{length}
 use Rattle.log_section.specs.Section.{injection_size, end_of, whole_after, rest_after}
 use Rattle.log_section.specs.Log.{Entries, byte, section_bytes, log_of, entries_of}
-use Rattle.log.specs.Answer.{read_of}
-use Rattle.log.specs.Older.{older_log}
-use Rattle.log.specs.declared.answer.Read.TheVariants.{Accepted, CutShort}
-use Rattle.log.proofs.Answers.{cut_short_exactly}
+use Rattle.trap_log.specs.Answer.{read_of}
+use Rattle.trap_log.specs.Older.{older_log}
+use Rattle.trap_log.specs.declared.answer.Read.TheVariants.{Accepted, CutShort}
+use Rattle.trap_log.proofs.Answers.{cut_short_exactly}
 use Rattle.log_section.proofs.Codec.{Stands}
 use Rattle.log_section.proofs.Found.{not_found, entries_cut}
-use Rattle.log.proofs.RoundTrip.{none, numbers_length, numbers_stand, Writable, three_then, three_length, editions_stand}
-use Rattle.log.proofs.RoundTrip.{syndromes_stand, addresses_stand, log_accepted, log_entries}
+use Rattle.trap_log.proofs.RoundTrip.{none, numbers_length, numbers_stand, Writable, three_then, three_length, editions_stand}
+use Rattle.trap_log.proofs.RoundTrip.{syndromes_stand, addresses_stand, log_accepted, log_entries}
 
 -- WITH AN INJECTION: the last section is one byte short for each
 module _ (e : Entries) (short : length (older_log e) ≤ 65536) where

@@ -12,9 +12,9 @@ use Rattle.bits.specs.Decide.{Test, needs, decide, FirstFails, FailsWith}
 use Rattle.bits.proofs.Deciding.{OneOf, decide_relabel, decided_exactly, decided_with_exactly, answer_is}
 use Rattle.log_section.specs.Section.{whole_after}
 use Rattle.log_section.specs.Log.{gone_through}
-use Rattle.log.specs.Answer.{number_of, section_in, gone_in, tests_of, read_tests, read_numbers, read_sections, read_of, Reading}
-use Rattle.log.specs.declared.answer.Read.{Read}
-use Rattle.log.specs.declared.answer.Read.TheVariants.{Accepted, TooLong, CutShort, LeftOver, Unequal, WideDomain}
+use Rattle.trap_log.specs.Answer.{number_of, section_in, gone_in, tests_of, read_tests, read_numbers, read_sections, read_of, Reading}
+use Rattle.trap_log.specs.declared.answer.Read.{Read}
+use Rattle.trap_log.specs.declared.answer.Read.TheVariants.{Accepted, TooLong, CutShort, LeftOver, Unequal, WideDomain}
 
 -- what holds of each refusal holds of what every test gives
 pub each_refusal : (P : Read → Type 0) (s : List ℕ)

@@ -5,8 +5,8 @@ use mathlib.Core.Path.{sym, ◌∙◌}
 use native.Mathlib.Omega.{arith}
 use lib.Dec.{lit<}
 use Rattle.log_section.proofs.Found.{Found, found, not_found, ends_within, handed_on, count_within, rest_length}
-use Rattle.log.proofs.sections.addresses.Statement.{statement}
-use Rattle.log.proofs.sections.addresses.Tie as tie
+use Rattle.trap_log.proofs.sections.addresses.Statement.{statement}
+use Rattle.trap_log.proofs.sections.addresses.Tie as tie
 
 -- what the section's reader tells where it found one
 known : (c : tie.After-count)

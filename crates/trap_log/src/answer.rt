@@ -1,8 +1,8 @@
 // What reading a log answers.
 ghost use Rattle.std.specs.Prelude.{◌≡◌};
-ghost use Rattle.log.specs.Answer.{number_of, section_in, gone_in};
+ghost use Rattle.trap_log.specs.Answer.{number_of, section_in, gone_in};
 
-#[derive(Drop)]
+#[derive(Clone, Copy)]
 pub enum Read {
     // How many counts and entries were gone through. An address pair is one entry.
     Accepted(usize),
