@@ -1,14 +1,15 @@
 // Bytes read from a file and written to standard output. A call that a signal interrupts is made again, and one that fails is told on
 // standard error, in the system's words.
 //
-// No contract can say which bytes were read or written, or why a call failed.
+// The file, standard output and standard error are a reader and two writers, which the caller holds. No contract can say which bytes were
+// read or written, or why a call failed.
 #![tactic(auto)]
 
-ghost use Rattle.std.specs.Prelude.{◌≡◌, ◌≤◌, length};
+ghost use Rattle.std.specs.Prelude.{◌≡◌, length};
 ghost use Rattle.io.specs.Counts.{IsPrefixLen};
-ghost use Rattle.stream.specs.Piece.{piece_of};
+ghost use Rattle.stream.specs.Piece.{answer, piece_of};
 
-use libc::{EINTR, STDOUT_FILENO};
+use std::io::{Error, ErrorKind, Read, Result, Write};
 
 // What was read: how many bytes, none where the input has ended, and whether a read failed.
 #[derive(Clone, Copy)]
@@ -17,51 +18,73 @@ pub struct Piece {
     pub failed: bool,
 }
 
-// What the C library's answer to a read says.
-fn piece_of(got: isize, space: &[u8]) -> Piece
-    ensures value { result ≡ piece_of got (length space.now) }
+// What the answer to a read says.
+fn piece_of(got: Result<usize>, space: &[u8]) -> Piece
+    ensures value { result ≡ piece_of (answer got) (length space.now) }
     ensures prefix_len { IsPrefixLen result.count space.now }
 {
-    Piece {
-        count: io::count(got, space),
-        failed: got < 0,
+    match got {
+        Ok(n) => Piece {
+            count: n.min(space.len()),
+            failed: false,
+        },
+        Err(_) => Piece {
+            count: 0,
+            failed: true,
+        },
     }
 }
 
 // Whether a call that gave this answer is to be made again.
-fn interrupted(got: isize) -> bool {
-    if got < 0 { os::errno() == EINTR } else { false }
+fn interrupted(got: &Result<usize>) -> bool {
+    match got {
+        Ok(_) => false,
+        Err(error) => error.kind() == ErrorKind::Interrupted,
+    }
 }
 
-// Reads some bytes of a file, which has this name for a failure. A proved loop has to end, and nothing says that signals do: it counts down
-// from a number that no run uses up.
-pub fn read(file: i32, name: &[u8], space: &mut [u8]) -> Piece
+// Writes a line to standard error: what failed, a colon and the system's words. Where that fails too, nothing is told.
+pub fn tell<E: Write>(errors: &mut E, what: &[u8], error: Error) {
+    let _ = errors.write_all(what);
+    let _ = writeln!(errors, ": {error}");
+}
+
+// Reads some bytes of a file, which has this name for a failure. A proved loop has to end, and nothing says that signals do: it counts
+// up to a number that no run reaches.
+pub fn read<R: Read, E: Write>(
+    source: &mut R,
+    errors: &mut E,
+    name: &[u8],
+    space: &mut [u8],
+) -> Piece
     ensures { IsPrefixLen result.count space.new }
 {
-    let mut got = libc::read(file, space);
-    let mut turns = u64::MAX;
-    while turns > 0 {
-        if !interrupted(got) {
+    let mut got = source.read(space);
+    for _ in 0..u64::MAX {
+        if !interrupted(&got) {
             break;
         }
-        got = libc::read(file, space);
-        turns -= 1;
+        got = source.read(space);
     }
-    let piece = piece_of(got, space);
-    if piece.failed {
-        os::fail(name);
+    if let Err(error) = got {
+        tell(errors, name, error);
     }
-    piece
+    piece_of(got, space)
 }
 
 // Reads until the space is full, the input ends or a read fails.
-pub fn read_full(file: i32, name: &[u8], space: &mut [u8]) -> Piece
+pub fn read_full<R: Read, E: Write>(
+    source: &mut R,
+    errors: &mut E,
+    name: &[u8],
+    space: &mut [u8],
+) -> Piece
     ensures { IsPrefixLen result.count space.new }
 {
     let mut done = 0;
     let mut failed = false;
     while done < space.len() {
-        let piece = read(file, name, &mut space[done..]);
+        let piece = read(source, errors, name, &mut space[done..]);
         failed = piece.failed;
         if piece.count == 0 {
             break;
@@ -74,32 +97,13 @@ pub fn read_full(file: i32, name: &[u8], space: &mut [u8]) -> Piece
     }
 }
 
-// One write of some bytes: how many were taken, none where it failed.
-fn write_some(bytes: &[u8]) -> usize
-    ensures { result ≤ length bytes.now }
-{
-    let mut put = libc::write(STDOUT_FILENO, bytes);
-    let mut turns = u64::MAX;
-    while turns > 0 {
-        if !interrupted(put) {
-            break;
-        }
-        put = libc::write(STDOUT_FILENO, bytes);
-        turns -= 1;
-    }
-    io::count(put, bytes)
-}
-
 // Writes all of some bytes, and tells whether they were taken.
-pub fn write(bytes: &[u8]) -> bool {
-    let mut done = 0;
-    while done < bytes.len() {
-        let n = write_some(&bytes[done..]);
-        if n == 0 {
-            os::fail(b"standard output");
-            return false;
+pub fn write<W: Write, E: Write>(out: &mut W, errors: &mut E, bytes: &[u8]) -> bool {
+    match out.write_all(bytes) {
+        Ok(()) => true,
+        Err(error) => {
+            tell(errors, b"standard output", error);
+            false
         }
-        done += n;
     }
-    true
 }
