@@ -1,9 +1,9 @@
-// Rows read from standard input a byte at a time: a word of small letters, and hexadecimal numbers with one space before each.
+// Rows read a byte at a time, by programs from standard input: a word of small letters, and hexadecimal numbers with one space before each.
 ghost use Rattle.std.specs.Prelude.{◌≡◌, ◌≤◌, max};
 ghost use Rattle.rows.specs.Row.{no_line};
 
 use super::row::{Row, with_letter};
-use libc::STDIN_FILENO;
+use std::io::Read;
 use text::Digit;
 
 // A line as far as it has come.
@@ -142,14 +142,15 @@ fn byte_at(chunk: &[u8; 512], from: usize, to: usize) -> Place {
     }
 }
 
-// The next byte of the input: a chunk is read where the last one is used up.
-fn next_byte(chunk: &mut [u8; 512], before: Place) -> Place {
+// The next byte of the input: a chunk is read where the last one is used up. A read that fails ends the input.
+fn next_byte<R: Read>(source: &mut R, chunk: &mut [u8; 512], before: Place) -> Place {
     if before.from < before.to {
         return byte_at(chunk, before.from, before.to);
     }
-    let got = libc::read(STDIN_FILENO, chunk);
-    let n = io::count(got, chunk);
-    byte_at(chunk, 0, n)
+    match source.read(chunk) {
+        Ok(n) => byte_at(chunk, 0, n),
+        Err(_) => byte_at(chunk, 0, 0),
+    }
 }
 
 // How far the input has been read.
@@ -197,14 +198,14 @@ fn row_of(line: Line) -> Row
 // Reads the next row by way of a chunk. A last line may lack its newline, but what follows the last newline is no line where it is empty.
 //
 // A proved loop has to end, and nothing says that a line does: it counts down from a number that no run uses up.
-pub fn read(chunk: &mut [u8; 512], before: Reader) -> Reader
+pub fn read<R: Read>(source: &mut R, chunk: &mut [u8; 512], before: Reader) -> Reader
     ensures { result.row.count ≤ 256 }
 {
     let mut place = before.place;
     let mut line = empty_line();
     let mut turns = u64::MAX;
     while turns > 0 {
-        place = next_byte(chunk, place);
+        place = next_byte(source, chunk, place);
         if place.ended | (place.byte == b'\n') {
             break;
         }

@@ -1,4 +1,4 @@
-// Rows: lines of a word and numbers read from standard input, and lines of numbers written in reply. second/README.md describes them.
+// Rows: lines of a word and numbers read from a reader, and lines of numbers written in reply. second/README.md describes them.
 //
 // Rows and replies are values: what a call is asked and what it answers stands in functions that borrow nothing, which are proved at
 // little cost. Input and output are borrowed here alone.

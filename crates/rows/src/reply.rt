@@ -2,7 +2,7 @@
 ghost use Rattle.std.specs.Prelude.{◌≡◌, [], ◌∷◌};
 ghost use Rattle.rows.specs.Reply.{no_row, with_one, with_first, with_change, with_changes};
 
-use libc::STDOUT_FILENO;
+use std::io::Write;
 
 // What a row is answered by. No call answers with more numbers.
 #[derive(Clone, Copy)]
@@ -111,21 +111,21 @@ fn put(out: &mut [u8], reply: Reply) -> usize {
     end
 }
 
-fn write_line(line: &[u8], end: usize) -> bool {
+fn write_line<W: Write>(out: &mut W, line: &[u8], end: usize) -> bool {
     if end <= line.len() {
-        io::write_all(STDOUT_FILENO, &line[..end])
+        out.write_all(&line[..end]).is_ok()
     } else {
         false
     }
 }
 
 // Writes a reply as a line, for which there is room: 256 numbers of 16 digits and what follows each. Tells whether it could be written.
-pub fn write(reply: Reply) -> bool {
+pub fn write<W: Write>(out: &mut W, reply: Reply) -> bool {
     if reply.count == 0 {
-        return io::write_all(STDOUT_FILENO, b"no row\n");
+        return out.write_all(b"no row\n").is_ok();
     }
     let mut line = [0u8; 4352];
     let end = put(&mut line, reply);
     let whole = text::append(&mut line, end, b"\n");
-    write_line(&line, whole)
+    write_line(out, &line, whole)
 }
