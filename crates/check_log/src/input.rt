@@ -1,15 +1,30 @@
-// What a question asks about, from standard input. Where the input has ended, every number is 0.
+// What a question asks about, from the program's input. Where the input has ended or a read has failed, every number is 0.
 //
 // A list is its length, how many of its entries follow, and these. The others are as the buffer has them. Of a list that has no room in the
 // buffer a number above the room is given.
 ghost use Rattle.std.specs.Prelude.{◌≤◌, length};
 
-use libc::STDIN_FILENO;
+use std::io::Read;
+
+// Reads until the space is full, the input ends or a read fails, and gives how many bytes it put at the start of the space.
+fn read_full<R: Read>(input: &mut R, space: &mut [u8]) -> usize
+    ensures { result ≤ length space.new }
+{
+    let mut done = 0;
+    while done < space.len() {
+        match input.read(&mut space[done..]) {
+            Ok(0) => break,
+            Ok(n) => done += n,
+            Err(_) => break,
+        }
+    }
+    done
+}
 
 // The next byte, or 0 at the end.
-pub fn letter() -> u8 {
+pub fn letter<R: Read>(input: &mut R) -> u8 {
     let mut one = [0u8; 1];
-    io::read_full(STDIN_FILENO, &mut one);
+    read_full(input, &mut one);
     one[0]
 }
 
@@ -18,16 +33,16 @@ fn joined(first: u8, second: u8, third: u8, last: u8) -> u32 {
 }
 
 // A number of four bytes, the lowest first.
-pub fn number() -> u32 {
+pub fn number<R: Read>(input: &mut R) -> u32 {
     let mut four = [0u8; 4];
-    io::read_full(STDIN_FILENO, &mut four);
+    read_full(input, &mut four);
     joined(four[0], four[1], four[2], four[3])
 }
 
 // A number of two bytes, the lowest first.
-fn half() -> u16 {
-    let low = letter();
-    let high = letter();
+fn half<R: Read>(input: &mut R) -> u16 {
+    let low = letter(input);
+    let high = letter(input);
     low as u16 + 256 * (high as u16)
 }
 
@@ -35,17 +50,17 @@ fn both(low: u32, high: u32) -> u64 {
     low as u64 + 4294967296 * (high as u64)
 }
 
-fn word() -> u64 {
-    let low = number();
-    let high = number();
+fn word<R: Read>(input: &mut R) -> u64 {
+    let low = number(input);
+    let high = number(input);
     both(low, high)
 }
 
 // Passes over so many entries, each as long as the space that is lent for it.
-fn skip(entry: &mut [u8], entries: usize) {
+fn skip<R: Read>(input: &mut R, entry: &mut [u8], entries: usize) {
     let mut left = entries;
     while left > 0 {
-        if io::read_full(STDIN_FILENO, entry) < entry.len() {
+        if read_full(input, entry) < entry.len() {
             break;
         }
         left -= 1;
@@ -53,61 +68,61 @@ fn skip(entry: &mut [u8], entries: usize) {
 }
 
 // Reads a list of bytes to the front of a buffer, and gives its length.
-pub fn bytes(space: &mut [u8]) -> usize {
-    let length = number() as usize;
-    let given = number() as usize;
+pub fn bytes<R: Read>(input: &mut R, space: &mut [u8]) -> usize {
+    let length = number(input) as usize;
+    let given = number(input) as usize;
     if space.len() < given {
         let mut entry = [0u8; 1];
-        skip(&mut entry, given);
+        skip(input, &mut entry, given);
         return given;
     }
-    io::read_full(STDIN_FILENO, &mut space[0..given]);
+    read_full(input, &mut space[0..given]);
     length
 }
 
-fn fill(space: &mut [u64], given: usize)
+fn fill<R: Read>(input: &mut R, space: &mut [u64], given: usize)
     requires { given ≤ length space.old }
 {
     let mut i = 0;
     while i < given {
-        space[i] = word();
+        space[i] = word(input);
         i += 1;
     }
 }
 
-fn fill_halves(space: &mut [u16], given: usize)
+fn fill_halves<R: Read>(input: &mut R, space: &mut [u16], given: usize)
     requires { given ≤ length space.old }
 {
     let mut i = 0;
     while i < given {
-        space[i] = half();
+        space[i] = half(input);
         i += 1;
     }
 }
 
 // The same for numbers of two bytes.
-pub fn halves(space: &mut [u16]) -> usize {
-    let length = number() as usize;
-    let given = number() as usize;
+pub fn halves<R: Read>(input: &mut R, space: &mut [u16]) -> usize {
+    let length = number(input) as usize;
+    let given = number(input) as usize;
     if space.len() < given {
         let mut entry = [0u8; 2];
-        skip(&mut entry, given);
+        skip(input, &mut entry, given);
         return given;
     }
-    fill_halves(space, given);
+    fill_halves(input, space, given);
     length
 }
 
 // And for words of eight.
-pub fn words(space: &mut [u64]) -> usize {
-    let length = number() as usize;
-    let given = number() as usize;
+pub fn words<R: Read>(input: &mut R, space: &mut [u64]) -> usize {
+    let length = number(input) as usize;
+    let given = number(input) as usize;
     if space.len() < given {
         let mut entry = [0u8; 8];
-        skip(&mut entry, given);
+        skip(input, &mut entry, given);
         return given;
     }
-    fill(space, given);
+    fill(input, space, given);
     length
 }
 

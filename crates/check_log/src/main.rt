@@ -8,6 +8,8 @@
 mod input;
 mod lines;
 
+use std::io::{Read, Write};
+
 // Room for more bytes, more injections and more words of a kind than a log may have.
 const BYTES: usize = 70000;
 
@@ -18,61 +20,61 @@ const WORDS: usize = 8200;
 // What a buffer holds where the question doesn't say it.
 const UNWRITTEN: u8 = 165;
 
-fn read_question() {
+fn read_question<R: Read, W: Write>(from: &mut R, to: &mut W) {
     let mut space = [0u8; BYTES];
-    let n = input::bytes(&mut space);
+    let n = input::bytes(from, &mut space);
     if n > BYTES {
-        lines::no_row();
+        lines::no_row(to);
         return;
     }
     let log = input::first_bytes(&space, n);
-    lines::read(b"read ", trap_log::read(log));
-    lines::read(b"held ", log_reader::read_in(log));
+    lines::read(to, b"read ", trap_log::read(log));
+    lines::read(to, b"held ", log_reader::read_in(log));
 }
 
-fn look_question() {
+fn look_question<R: Read, W: Write>(from: &mut R, to: &mut W) {
     let mut space = [0u8; BYTES];
-    let n = input::bytes(&mut space);
-    let passed = input::number();
-    let entry = input::number();
+    let n = input::bytes(from, &mut space);
+    let passed = input::number(from);
+    let entry = input::number(from);
     if n > BYTES {
-        lines::no_row();
+        lines::no_row(to);
         return;
     }
     let log = input::first_bytes(&space, n);
-    lines::look(log_reader::look_in(log, passed, entry as usize));
+    lines::look(to, log_reader::look_in(log, passed, entry as usize));
 }
 
-fn again_question() {
+fn again_question<R: Read, W: Write>(from: &mut R, to: &mut W) {
     let mut space = [0u8; BYTES];
     let mut buffer = [UNWRITTEN; BYTES];
-    let n = input::bytes(&mut space);
-    let room = input::bytes(&mut buffer);
+    let n = input::bytes(from, &mut space);
+    let room = input::bytes(from, &mut buffer);
     if (n > BYTES) | (room > BYTES) {
-        lines::no_row();
+        lines::no_row(to);
         return;
     }
     let log = input::first_bytes(&space, n);
     let out = input::front(&mut buffer, room);
     let answer = log_rewrite::rewrite(log, out);
-    lines::again(answer, out);
+    lines::again(to, answer, out);
 }
 
-fn write_question() {
+fn write_question<R: Read, W: Write>(from: &mut R, to: &mut W) {
     let mut editions = [0u8; BYTES];
     let mut syndromes = [0u64; WORDS];
     let mut fars = [0u64; WORDS];
     let mut hpfars = [0u64; WORDS];
     let mut injections = [0u16; HALVES];
     let mut buffer = [UNWRITTEN; BYTES];
-    let e = input::bytes(&mut editions);
-    let s = input::words(&mut syndromes);
-    let f = input::words(&mut fars);
-    let h = input::words(&mut hpfars);
-    let i = input::halves(&mut injections);
-    let room = input::bytes(&mut buffer);
+    let e = input::bytes(from, &mut editions);
+    let s = input::words(from, &mut syndromes);
+    let f = input::words(from, &mut fars);
+    let h = input::words(from, &mut hpfars);
+    let i = input::halves(from, &mut injections);
+    let room = input::bytes(from, &mut buffer);
     if (e > BYTES) | (s > WORDS) | (f > WORDS) | (h > WORDS) | (i > HALVES) | (room > BYTES) {
-        lines::no_row();
+        lines::no_row(to);
         return;
     }
     let out = input::front(&mut buffer, room);
@@ -84,28 +86,28 @@ fn write_question() {
         input::first_halves(&injections, i),
         out,
     );
-    lines::written(answer, out);
+    lines::written(to, answer, out);
 }
 
 // Answers a question, and tells whether there was one.
-fn next_question() -> bool {
-    match input::letter() {
-        b'r' => read_question(),
-        b'l' => look_question(),
-        b'a' => again_question(),
-        b'w' => write_question(),
+fn next_question<R: Read, W: Write>(from: &mut R, to: &mut W) -> bool {
+    match input::letter(from) {
+        b'r' => read_question(from, to),
+        b'l' => look_question(from, to),
+        b'a' => again_question(from, to),
+        b'w' => write_question(from, to),
         _ => return false,
     }
     true
 }
 
-// A proved loop has to end, and nothing says that the input does: it counts down from a number that no run uses up.
-fn main() {
-    let mut turns = u64::MAX;
-    while turns > 0 {
-        if !next_question() {
+// A proved loop has to end, and nothing says that the input does: it counts up to a number that no run reaches.
+fn main(rt: HostRuntime) {
+    let mut from = rt.stdin();
+    let mut to = rt.stdout();
+    for _ in 0..u64::MAX {
+        if !next_question(&mut from, &mut to) {
             break;
         }
-        turns -= 1;
     }
 }

@@ -13,9 +13,10 @@ ghost use Rattle.question.specs.Question.{question_of};
 ghost use Rattle.explain.specs.Answer.{answer_text};
 ghost use Rattle.explain.specs.Lines.{line_after, answers_in, end_text, Answered};
 
-use libc::STDIN_FILENO;
 use question::{Question, State};
 use registers::{Esr, Far, Hpfar, Hsr};
+use std::env::Env;
+use std::io::{Read, Write};
 
 // Appends the answer to a question.
 fn answer(out: &mut [u8], at: usize, question: Question) -> usize
@@ -76,13 +77,13 @@ struct Turn {
 }
 
 // Reads a chunk and puts its answers into a buffer. No contract can say which bytes were read.
-fn next_chunk(out: &mut [u8], line: State) -> Turn
+fn next_chunk<R: Read, E: Write>(input: &mut R, errors: &mut E, out: &mut [u8], line: State) -> Turn
     requires { 4096 * 16 ≤ length out.old }
     ensures answered { Answered line result.line (take result.end out.new) }
     ensures prefix_len { IsPrefixLen result.end out.new }
 {
     let mut chunk = [0u8; 16];
-    let piece = stream::read(STDIN_FILENO, b"standard input", &mut chunk);
+    let piece = stream::read(input, errors, b"standard input", &mut chunk);
     let n = piece.count;
     let p = answers(out, &chunk[..n], line);
     let end = p.end;
@@ -120,40 +121,40 @@ fn answer_line(out: &mut [u8], line: &[u8]) -> usize
 }
 
 // Writes the text at the start of a buffer. No contract can say what was written.
-fn write(out: &mut [u8], end: usize) -> bool
-    requires { IsPrefixLen end out.old }
+fn write<W: Write, E: Write>(output: &mut W, errors: &mut E, out: &[u8], end: usize) -> bool
+    requires { IsPrefixLen end out.now }
 {
-    stream::write(&out[..end])
+    stream::write(output, errors, &out[..end])
 }
 
 // Answers the lines of standard input. A proved loop has to end, and nothing says that the input does: it counts down from a number that no
 // run uses up.
-fn answer_input() {
+fn answer_input<R: Read, W: Write, E: Write>(input: &mut R, output: &mut W, errors: &mut E) {
     let mut space = io::large_buffer();
     let out: &mut [u8] = &mut space;
     let mut line = question::start();
     let mut ended = false;
     let mut turns = u64::MAX;
     while turns > 0 {
-        let t = next_chunk(out, line);
+        let t = next_chunk(input, errors, out, line);
         line = t.line;
         ended = t.ended;
-        if !(write(out, t.end) & t.more) {
+        if !(write(output, errors, out, t.end) & t.more) {
             break;
         }
         turns -= 1;
     }
     let end = last(out, line, ended);
-    write(out, end);
+    write(output, errors, out, end);
 }
 
 // Appends an argument to a line, after a space where it isn't the first.
-fn add_argument(line: &mut [u8], at: usize, i: usize) -> usize
+fn add_argument<E: Env>(env: &E, line: &mut [u8], at: usize, i: usize) -> usize
     requires { at ≤ length line.old }
     ensures { result ≤ length line.new }
 {
     let mut one = io::buffer();
-    let n = os::arg(i, &mut one);
+    let n = stream::argument(env, i, &mut one);
     if i == 1 {
         return text::append(line, at, &one[..n]);
     }
@@ -162,13 +163,13 @@ fn add_argument(line: &mut [u8], at: usize, i: usize) -> usize
 }
 
 // The arguments as one line. What has no room is left out, and what is left is no line.
-fn arguments(line: &mut [u8], count: usize) -> usize
+fn arguments<E: Env>(env: &E, line: &mut [u8], count: usize) -> usize
     ensures { IsPrefixLen result line.new }
 {
     let mut end = 0;
     let mut i = 1;
     while i < count {
-        end = add_argument(line, end, i);
+        end = add_argument(env, line, end, i);
         i += 1;
     }
     end
@@ -187,29 +188,36 @@ const HELP: [u8; 562] = *b"\
     space. Every other line is `no line`.\n\
     ";
 
-fn help() {
+fn help<W: Write, E: Write>(output: &mut W, errors: &mut E) {
     let text = HELP;
-    stream::write(&text);
+    stream::write(output, errors, &text);
 }
 
 // Answers the question that the arguments are.
-fn answer_arguments(count: usize) {
+fn answer_arguments<A: Env, W: Write, E: Write>(
+    env: &A,
+    output: &mut W,
+    errors: &mut E,
+    count: usize,
+) {
     let mut line = io::buffer();
-    let end = arguments(&mut line, count);
-    if check::same(&line[..end], b"--help") {
-        help();
+    let end = arguments(env, &mut line, count);
+    if &line[..end] == b"--help".as_slice() {
+        help(output, errors);
         return;
     }
     let mut out = io::buffer();
     let told = answer_line(&mut out, &line[..end]);
-    write(&mut out, told);
+    write(output, errors, &out, told);
 }
 
-fn main() {
-    let count = os::arg_count();
+fn main(rt: HostRuntime) {
+    let mut output = rt.stdout();
+    let mut errors = rt.stderr();
+    let count = stream::argument_count(&rt);
     if count < 2 {
-        answer_input();
+        answer_input(&mut rt.stdin(), &mut output, &mut errors);
     } else {
-        answer_arguments(count);
+        answer_arguments(&rt, &mut output, &mut errors, count);
     }
 }

@@ -5,16 +5,19 @@ ghost use Rattle.std.specs.Prelude.{◌≤◌, ◌<◌, ◌≡◌, [], length, t
 ghost use Rattle.io.specs.Counts.{IsPrefixLen};
 ghost use Rattle.log_pieces.specs.Text.{shown, seen_mask, pieces_of};
 
-use libc::{STDERR_FILENO, STDIN_FILENO};
+use std::env::Env;
+use std::fs::File;
+use std::io::{Error, ErrorKind, Read, Write};
+use std::rt::Files;
 use stream::Piece;
 
 // Reads a file into a buffer. One byte more than a log may have is enough to refuse an input of any length, and no more is read. No
 // contract can say which bytes were read.
-fn read_log(file: i32, name: &[u8], space: &mut [u8]) -> Piece
+fn read_log<R: Read, E: Write>(file: &mut R, errors: &mut E, name: &[u8], space: &mut [u8]) -> Piece
     requires { 65536 < length space.old }
     ensures { IsPrefixLen result.count space.new }
 {
-    stream::read_full(file, name, space)
+    stream::read_full(file, errors, name, space)
 }
 
 // Puts piece i of a log's text into a buffer that has room for any piece.
@@ -28,23 +31,37 @@ fn piece(out: &mut [u8], log: &[u8], seen: u32, explained: bool, i: usize) -> us
 }
 
 // Writes piece i. No contract can say what was written.
-fn write_piece(out: &mut [u8], log: &[u8], seen: u32, explained: bool, i: usize) -> bool
+fn write_piece<W: Write, E: Write>(
+    output: &mut W,
+    errors: &mut E,
+    out: &mut [u8],
+    log: &[u8],
+    seen: u32,
+    explained: bool,
+    i: usize,
+) -> bool
     requires in_bounds { 65536 ≤ length out.old }
     requires seen_value { seen ≡ seen_mask (shown log.now) }
 {
     let end = piece(out, log, seen, explained, i);
-    stream::write(&out[..end])
+    stream::write(output, errors, &out[..end])
 }
 
 // Writes a log's text. A write that fails ends it.
-fn write_text(out: &mut [u8], log: &[u8], explained: bool)
+fn write_text<W: Write, E: Write>(
+    output: &mut W,
+    errors: &mut E,
+    out: &mut [u8],
+    log: &[u8],
+    explained: bool,
+)
     requires { 65536 ≤ length out.old }
 {
     let seen = log_pieces::known_editions(log);
     let n = log_pieces::count(log);
     let mut i = 0;
     while i < n {
-        if !write_piece(out, log, seen, explained, i) {
+        if !write_piece(output, errors, out, log, seen, explained, i) {
             break;
         }
         i += 1;
@@ -52,15 +69,21 @@ fn write_text(out: &mut [u8], log: &[u8], explained: bool)
 }
 
 // Shows the log in a file that is open for reading and has this name. What was read before a read that failed is no log.
-fn show(file: i32, name: &[u8], explained: bool) {
+fn show<R: Read, W: Write, E: Write>(
+    file: &mut R,
+    output: &mut W,
+    errors: &mut E,
+    name: &[u8],
+    explained: bool,
+) {
     let mut space = [0u8; 65537];
-    let piece = read_log(file, name, &mut space);
+    let piece = read_log(file, errors, name, &mut space);
     if piece.failed {
         return;
     }
     let n = piece.count;
     let mut out = io::large_buffer();
-    write_text(&mut out, &space[..n], explained);
+    write_text(output, errors, &mut out, &space[..n], explained);
 }
 
 const HELP: [u8; 396] = *b"\
@@ -73,55 +96,71 @@ const HELP: [u8; 396] = *b"\
     logread --explain [FILE]  the same, and after each answer what explain says of the trap\n\
     ";
 
-fn help() {
+fn help<W: Write, E: Write>(output: &mut W, errors: &mut E) {
     let text = HELP;
-    stream::write(&text);
+    stream::write(output, errors, &text);
 }
 
-fn usage() {
-    io::write_all(
-        STDERR_FILENO,
-        b"usage: logread [--explain] [FILE], or logread --help\n",
-    );
+fn usage<E: Write>(errors: &mut E) {
+    let _ = errors.write_all(b"usage: logread [--explain] [FILE], or logread --help\n");
+}
+
+// Opens a file for reading. The library takes no name that is not UTF-8.
+fn open_named<R: Files>(files: &R, name: &[u8]) -> Result<R::File, Error> {
+    match str::from_utf8(name) {
+        Ok(path) => File::open(files, path),
+        Err(_) => Err(Error::from(ErrorKind::InvalidFilename)),
+    }
 }
 
 // Shows the log in the file that an argument names, or says why it can't be opened.
-fn show_named(name: &[u8], explained: bool) {
-    let file = os::open_read(name);
-    if file < 0 {
-        os::fail(name);
-        return;
+fn show_named<F: Files, W: Write, E: Write>(
+    files: &F,
+    output: &mut W,
+    errors: &mut E,
+    name: &[u8],
+    explained: bool,
+) {
+    match open_named(files, name) {
+        Ok(mut file) => show(&mut file, output, errors, name, explained),
+        Err(error) => stream::tell(errors, name, error),
     }
-    show(file, name, explained);
-    libc::close(file);
 }
 
 // Shows the log that the arguments from one on name: the file, or standard input where there is none.
-fn show_from(i: usize, explained: bool) {
-    let count = os::arg_count();
+fn show_from(rt: &HostRuntime, i: usize, explained: bool) {
+    let mut output = rt.stdout();
+    let mut errors = rt.stderr();
+    let count = stream::argument_count(rt);
     if count <= i {
-        show(STDIN_FILENO, b"standard input", explained);
+        show(
+            &mut rt.stdin(),
+            &mut output,
+            &mut errors,
+            b"standard input",
+            explained,
+        );
         return;
     }
     if count - i > 1 {
-        usage();
+        usage(&mut errors);
         return;
     }
     let mut name = io::buffer();
-    let n = os::arg(i, &mut name);
-    show_named(&name[..n], explained);
+    let n = stream::argument(rt, i, &mut name);
+    show_named(rt, &mut output, &mut errors, &name[..n], explained);
 }
 
-fn main() {
+fn main(rt: HostRuntime) {
     let mut first = io::buffer();
-    let n = os::arg(1, &mut first);
-    if check::same(&first[..n], b"--explain") {
-        show_from(2, true);
+    let n = stream::argument(&rt, 1, &mut first);
+    if &first[..n] == b"--explain".as_slice() {
+        show_from(&rt, 2, true);
     } else {
-        if (os::arg_count() == 2) & check::same(&first[..n], b"--help") {
-            help();
+        if (stream::argument_count(&rt) == 2) & (&first[..n] == b"--help".as_slice()) {
+            help(&mut rt.stdout(), &mut rt.stderr());
         } else {
-            show_from(1, false);
+            show_from(&rt, 1, false);
         }
     }
 }

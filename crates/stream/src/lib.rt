@@ -1,5 +1,5 @@
 // Bytes read from a file and written to standard output. A call that a signal interrupts is made again, and one that fails is told on
-// standard error, in the system's words.
+// standard error, in the system's words. And a program's arguments.
 //
 // The file, standard output and standard error are a reader and two writers, which the caller holds. No contract can say which bytes were
 // read or written, or why a call failed.
@@ -9,6 +9,7 @@ ghost use Rattle.std.specs.Prelude.{◌≡◌, length};
 ghost use Rattle.io.specs.Counts.{IsPrefixLen};
 ghost use Rattle.stream.specs.Piece.{answer, piece_of};
 
+use std::env::{Env, FillError};
 use std::io::{Error, ErrorKind, Read, Result, Write};
 
 // What was read: how many bytes, none where the input has ended, and whether a read failed.
@@ -106,4 +107,21 @@ pub fn write<W: Write, E: Write>(out: &mut W, errors: &mut E, bytes: &[u8]) -> b
             false
         }
     }
+}
+
+// How many arguments a program was started with, its own name among them.
+pub fn argument_count<E: Env>(env: &E) -> usize {
+    for i in 0..usize::MAX {
+        if let Err(FillError::NotPresent) = env.arg(i, &mut []) {
+            return i;
+        }
+    }
+    usize::MAX
+}
+
+// Puts an argument at the start of a space and gives its length, or 0 where there is none or it has no room.
+pub fn argument<E: Env>(env: &E, i: usize, space: &mut [u8]) -> usize
+    ensures { IsPrefixLen result space.new }
+{
+    env.arg(i, space).unwrap_or(0)
 }

@@ -12,11 +12,11 @@ ghost use Rattle.trapread.specs.Answer.{field_text, refused_text, answer_text};
 ghost use Rattle.trapread.specs.Lines.{line_after, answers_in, end_text, Answered};
 
 use edition::Refusal;
-use libc::{STDERR_FILENO, STDIN_FILENO};
 use line::{Line, State};
 use record::Origin;
 use registers::Esr;
-use syndrome::Read;
+use std::env::Env;
+use std::io::{Read, Write};
 
 // Appends a space and a number.
 fn field(out: &mut [u8], at: usize, n: u32) -> usize
@@ -46,8 +46,8 @@ fn answer(out: &mut [u8], at: usize, line: Line) -> usize
             edition,
             Esr(word),
         ) {
-            Read::Taken(_) => text::append(out, at, b"taken\n"),
-            Read::Refused(refusal) => refused(out, at, refusal),
+            syndrome::Read::Taken(_) => text::append(out, at, b"taken\n"),
+            syndrome::Read::Refused(refusal) => refused(out, at, refusal),
         },
         Line::NoLine => text::append(out, at, b"no line\n"),
     }
@@ -95,13 +95,13 @@ struct Turn {
 }
 
 // Reads a chunk and puts its answers into a buffer. No contract can say which bytes were read.
-fn next_chunk(out: &mut [u8], line: State) -> Turn
+fn next_chunk<R: Read, E: Write>(input: &mut R, errors: &mut E, out: &mut [u8], line: State) -> Turn
     requires { 128 * 512 ≤ length out.old }
     ensures answered { Answered line result.line (take result.end out.new) }
     ensures prefix_len { IsPrefixLen result.end out.new }
 {
     let mut chunk = [0u8; 512];
-    let piece = stream::read(STDIN_FILENO, b"standard input", &mut chunk);
+    let piece = stream::read(input, errors, b"standard input", &mut chunk);
     let n = piece.count;
     let p = answers(out, &chunk[..n], line);
     let end = p.end;
@@ -130,31 +130,31 @@ fn last(out: &mut [u8], line: State, ended: bool) -> usize
 }
 
 // Writes the text at the start of a buffer. No contract can say what was written.
-fn write(out: &mut [u8], end: usize) -> bool
-    requires { IsPrefixLen end out.old }
+fn write<W: Write, E: Write>(output: &mut W, errors: &mut E, out: &[u8], end: usize) -> bool
+    requires { IsPrefixLen end out.now }
 {
-    stream::write(&out[..end])
+    stream::write(output, errors, &out[..end])
 }
 
 // Answers the lines of standard input. A proved loop has to end, and nothing says that the input does: it counts down from a number that
 // no run uses up.
-fn answer_input() {
+fn answer_input<R: Read, W: Write, E: Write>(input: &mut R, output: &mut W, errors: &mut E) {
     let mut space = io::large_buffer();
     let out: &mut [u8] = &mut space;
     let mut line = line::start();
     let mut ended = false;
     let mut turns = u64::MAX;
     while turns > 0 {
-        let t = next_chunk(out, line);
+        let t = next_chunk(input, errors, out, line);
         line = t.line;
         ended = t.ended;
-        if !(write(out, t.end) & t.more) {
+        if !(write(output, errors, out, t.end) & t.more) {
             break;
         }
         turns -= 1;
     }
     let end = last(out, line, ended);
-    write(out, end);
+    write(output, errors, out, end);
 }
 
 const HELP: [u8; 441] = *b"\
@@ -167,34 +167,35 @@ const HELP: [u8; 441] = *b"\
     space and 16 hex digits follow. Every other line is `no line`.\n\
     ";
 
-fn help() {
+fn help<W: Write, E: Write>(output: &mut W, errors: &mut E) {
     let text = HELP;
-    stream::write(&text);
+    stream::write(output, errors, &text);
 }
 
-fn usage() {
-    io::write_all(
-        STDERR_FILENO,
+fn usage<E: Write>(errors: &mut E) {
+    let _ = errors.write_all(
         b"usage: trapread reads lines from standard input, and takes no word but --help\n",
     );
 }
 
 // Whether the first argument asks for help. The program takes no other.
-fn asks_help() -> bool {
+fn asks_help<E: Env>(env: &E) -> bool {
     let mut word = io::buffer();
-    let n = os::arg(1, &mut word);
-    check::same(&word[..n], b"--help")
+    let n = stream::argument(env, 1, &mut word);
+    &word[..n] == b"--help".as_slice()
 }
 
-fn main() {
-    let count = os::arg_count();
+fn main(rt: HostRuntime) {
+    let mut output = rt.stdout();
+    let mut errors = rt.stderr();
+    let count = stream::argument_count(&rt);
     if count < 2 {
-        answer_input();
+        answer_input(&mut rt.stdin(), &mut output, &mut errors);
     } else {
-        if (count == 2) & asks_help() {
-            help();
+        if (count == 2) & asks_help(&rt) {
+            help(&mut output, &mut errors);
         } else {
-            usage();
+            usage(&mut errors);
         }
     }
 }
