@@ -21,8 +21,7 @@ fn access_told(answer: a32::Answer) -> [u32; 16]
 }
 
 // Describes an instruction.
-#[unsafe(no_mangle)]
-pub extern "C" fn knucklepin_a32_describe(
+pub fn knucklepin_a32_describe(
     state: &[u32; 48],
     word: u32,
     access: &mut [u32; 16],
@@ -52,8 +51,7 @@ fn transfer_told(answer: a32_finish::Answer) -> [u32; 2]
 }
 
 // Finishes a load or store.
-#[unsafe(no_mangle)]
-pub extern "C" fn knucklepin_a32_finish(
+pub fn knucklepin_a32_finish(
     state: &mut [u32; 48],
     word: u32,
     values: &[u32; 16],

@@ -15,24 +15,21 @@ use record::Origin;
 use record_of_words::record_of;
 
 // The edition of a board.
-#[unsafe(no_mangle)]
-pub extern "C" fn knucklepin_edition_raw(pfr0: u64, mmfr0: u64, mmfr1: u64) -> u32
+pub fn knucklepin_edition_raw(pfr0: u64, mmfr0: u64, mmfr1: u64) -> u32
     ensures { result ≡ edition_of (record { 0 = pfr0 }) (record { 0 = mmfr0 }) (record { 0 = mmfr1 }) }
 {
     chip::edition_of(IdAa64pfr0(pfr0), IdAa64mmfr0(mmfr0), IdAa64mmfr1(mmfr1))
 }
 
 // The edition of a board for the short form.
-#[unsafe(no_mangle)]
-pub extern "C" fn knucklepin_short_edition_raw(pfr0: u64) -> u32
+pub fn knucklepin_short_edition_raw(pfr0: u64) -> u32
     ensures { result ≡ short_edition_of (record { 0 = pfr0 }) }
 {
     chip::short_edition_of(IdPfr0(pfr0))
 }
 
 // The marks of a 32-bit guest.
-#[unsafe(no_mangle)]
-pub extern "C" fn knucklepin_marks_raw(mmfr3: u64, pfr2: u64, pfr0: u64, marks: &mut [u32; 3])
+pub fn knucklepin_marks_raw(mmfr3: u64, pfr2: u64, pfr0: u64, marks: &mut [u32; 3])
     ensures { marks.new ≡ marks_in (marks_of (record { 0 = mmfr3 }) (record { 0 = pfr2 }) (record { 0 = pfr0 })) }
 {
     let found = chip::marks_of(IdMmfr3(mmfr3), IdPfr2(pfr2), IdPfr0(pfr0));
@@ -61,8 +58,7 @@ fn origin_number(origin: Origin) -> u32
 }
 
 // What ran when the chip trapped, and the origin by which its trap is read.
-#[unsafe(no_mangle)]
-pub extern "C" fn knucklepin_ran_raw(spsr: u64, hcr: u64, origin: &mut u32) -> u32
+pub fn knucklepin_ran_raw(spsr: u64, hcr: u64, origin: &mut u32) -> u32
     ensures { Running (record { 0 = spsr }) (record { 0 = hcr }) result origin.new }
 {
     let ran = chip::ran_of(Spsr(spsr), Hcr(hcr));
@@ -156,8 +152,7 @@ fn passes_in(answer: Answer) -> u32
 }
 
 // Why an abort came, and whether an injection passes it on.
-#[unsafe(no_mangle)]
-pub extern "C" fn knucklepin_cause(origin: u32, syndrome: &[u32; 16], cause: &mut [u32; 4]) -> u32
+pub fn knucklepin_cause(origin: u32, syndrome: &[u32; 16], cause: &mut [u32; 4]) -> u32
     ensures { Causing (origin_of origin) (record_of syndrome.now) result cause.new }
 {
     let answer = cause::cause_of(origin_of(origin), record_of(*syndrome));

@@ -138,8 +138,7 @@ fn number_in(answer: Encoded) -> u32
 }
 
 // The word that the fields make.
-#[unsafe(no_mangle)]
-pub extern "C" fn knucklepin_a32_encode(access: &[u32; 16], word: &mut u32) -> u32
+pub fn knucklepin_a32_encode(access: &[u32; 16], word: &mut u32) -> u32
     ensures { EncodedWord access.now result word.new }
 {
     let answer = encoded(fields_of(*access));

@@ -34,8 +34,7 @@ fn editions_of(refusal: Refusal) -> [u32; 2]
 }
 
 // Reads a syndrome word.
-#[unsafe(no_mangle)]
-pub extern "C" fn knucklepin_esr_read_raw(
+pub fn knucklepin_esr_read_raw(
     origin: u32,
     edition: u32,
     esr: u64,
@@ -59,8 +58,7 @@ pub extern "C" fn knucklepin_esr_read_raw(
 }
 
 // Writes a record.
-#[unsafe(no_mangle)]
-pub extern "C" fn knucklepin_esr_write_raw(
+pub fn knucklepin_esr_write_raw(
     origin: u32,
     edition: u32,
     syndrome: &[u32; 16],

@@ -18,8 +18,7 @@ use status::{FromSpsr, Held, Marks, ToSpsr};
 const NOWHERE: u32 = 0xFFFF_FFFF;
 
 // The AArch64 number of a register of a mode.
-#[unsafe(no_mangle)]
-pub extern "C" fn knucklepin_held_in(mode: u32, number: u32) -> u32
+pub fn knucklepin_held_in(mode: u32, number: u32) -> u32
     ensures { result ≡ held_number mode number }
 {
     match status::held_in(mode, number) {
@@ -40,14 +39,7 @@ fn marks_by(pan: u32, ssbs: u32, dit: u32) -> Marks
 }
 
 // The guest's status word, from the word that the hypervisor saved of it.
-#[unsafe(no_mangle)]
-pub extern "C" fn knucklepin_from_spsr(
-    pan: u32,
-    ssbs: u32,
-    dit: u32,
-    spsr: u32,
-    status: &mut u32,
-) -> u32
+pub fn knucklepin_from_spsr(pan: u32, ssbs: u32, dit: u32, spsr: u32, status: &mut u32) -> u32
     ensures { SavedWord pan ssbs dit spsr result status.new }
 {
     match status::from_spsr(marks_by(pan, ssbs, dit), spsr) {
@@ -63,14 +55,7 @@ pub extern "C" fn knucklepin_from_spsr(
 }
 
 // The word to write into SPSR_EL2, from the guest's status word.
-#[unsafe(no_mangle)]
-pub extern "C" fn knucklepin_to_spsr(
-    pan: u32,
-    ssbs: u32,
-    dit: u32,
-    status: u32,
-    spsr: &mut u32,
-) -> u32
+pub fn knucklepin_to_spsr(pan: u32, ssbs: u32, dit: u32, status: u32, spsr: &mut u32) -> u32
     ensures { WrittenWord pan ssbs dit status result spsr.new }
 {
     match status::to_spsr(marks_by(pan, ssbs, dit), status) {
@@ -86,8 +71,7 @@ pub extern "C" fn knucklepin_to_spsr(
 }
 
 // Injects an exception.
-#[unsafe(no_mangle)]
-pub extern "C" fn knucklepin_inject(
+pub fn knucklepin_inject(
     state: &mut [u32; 48],
     injection: u32,
     fault: u32,
@@ -108,8 +92,7 @@ pub extern "C" fn knucklepin_inject(
 }
 
 // What an injection adds to PC for its link, modulo 2^32.
-#[unsafe(no_mangle)]
-pub extern "C" fn knucklepin_injection_correction(state: &[u32; 48], injection: u32) -> u32
+pub fn knucklepin_injection_correction(state: &[u32; 48], injection: u32) -> u32
     ensures { result ≡ injection_correction (state_of state.now) injection }
 {
     if 4 < injection {
@@ -120,8 +103,7 @@ pub extern "C" fn knucklepin_injection_correction(state: &[u32; 48], injection: 
 }
 
 // A queue after the kind of a number was raised.
-#[unsafe(no_mangle)]
-pub extern "C" fn knucklepin_raise(queue: u32, kind: u32) -> u32
+pub fn knucklepin_raise(queue: u32, kind: u32) -> u32
     ensures { result ≡ queue_number (raised_by kind (waiting_in queue)) }
 {
     number_of(raise_number(queue_of(queue), kind))
@@ -139,8 +121,7 @@ fn delivered_number(answer: delivery::Answer) -> u32
 }
 
 // Makes a delivery step: `pending` is the queue, and then what was delivered.
-#[unsafe(no_mangle)]
-pub extern "C" fn knucklepin_deliver(state: &mut [u32; 48], pending: &mut [u32; 2]) -> u32
+pub fn knucklepin_deliver(state: &mut [u32; 48], pending: &mut [u32; 2]) -> u32
     ensures { Delivering state.old pending.old result state.new pending.new }
 {
     let words = *state;
@@ -155,8 +136,7 @@ pub extern "C" fn knucklepin_deliver(state: &mut [u32; 48], pending: &mut [u32; 
 }
 
 // What the delivery of a kind adds to PC for its link, modulo 2^32.
-#[unsafe(no_mangle)]
-pub extern "C" fn knucklepin_delivery_correction(state: &[u32; 48], kind: u32) -> u32
+pub fn knucklepin_delivery_correction(state: &[u32; 48], kind: u32) -> u32
     ensures { result ≡ delivery_correction (state_of state.now) kind }
 {
     let words = *state;
@@ -169,8 +149,7 @@ pub extern "C" fn knucklepin_delivery_correction(state: &[u32; 48], kind: u32) -
 }
 
 // Returns the guest from an exception.
-#[unsafe(no_mangle)]
-pub extern "C" fn knucklepin_resume(state: &mut [u32; 48], correction: u32) -> u32
+pub fn knucklepin_resume(state: &mut [u32; 48], correction: u32) -> u32
     ensures { Returning state.old correction result state.new }
 {
     let words = *state;

@@ -10,8 +10,7 @@ ghost use Rattle.log_calls.specs.Calls.{ReadLog, whole_in, count_in, entry_in, f
 use trap_log::{Entry, Section};
 
 // Reads a log.
-#[unsafe(no_mangle)]
-pub extern "C" fn knucklepin_log_read(log: &[u8], answer: &mut [u64; 2]) -> u32
+pub fn knucklepin_log_read(log: &[u8], answer: &mut [u64; 2]) -> u32
     ensures { ReadLog (read_of log.now) result answer.new }
 {
     let read = log_reader::read_in(log);
@@ -87,8 +86,7 @@ fn second_in(entry: Entry) -> u64
 }
 
 // Looks at entry i of the section after so many.
-#[unsafe(no_mangle)]
-pub extern "C" fn knucklepin_log_look(log: &[u8], passed: u32, i: u64, found: &mut [u64; 5])
+pub fn knucklepin_log_look(log: &[u8], passed: u32, i: u64, found: &mut [u64; 5])
     ensures { found.new ≡ found_in (look_in log.now passed i) }
 {
     let look = log_reader::look_in(log, passed, i as usize);
@@ -104,8 +102,7 @@ pub extern "C" fn knucklepin_log_look(log: &[u8], passed: u32, i: u64, found: &m
 }
 
 // Writes a log.
-#[unsafe(no_mangle)]
-pub extern "C" fn knucklepin_log_write_raw<'a, 'b>(
+pub fn knucklepin_log_write_raw<'a, 'b>(
     editions: &'a [u8],
     syndromes: &'a [u64],
     fars: &'a [u64],

@@ -12,16 +12,14 @@ use record_of_words::record_of;
 use state_words::{state_of, words_of};
 
 // Whether a trapped instruction counts.
-#[unsafe(no_mangle)]
-pub extern "C" fn knucklepin_passes(status: u32, syndrome: &[u32; 16]) -> u32
+pub fn knucklepin_passes(status: u32, syndrome: &[u32; 16]) -> u32
     ensures { result ≡ flag (passes status (record_of syndrome.now)) }
 {
     step::passes(status, record_of(*syndrome)) as u32
 }
 
 // Steps over an instruction.
-#[unsafe(no_mangle)]
-pub extern "C" fn knucklepin_step_over(state: &mut [u32; 48], syndrome: &[u32; 16]) -> u32
+pub fn knucklepin_step_over(state: &mut [u32; 48], syndrome: &[u32; 16]) -> u32
     ensures { Stepping state.old (record_of syndrome.now) result state.new }
 {
     let words = *state;
@@ -46,8 +44,7 @@ fn stored_in(answer: device::Answer) -> u32
 }
 
 // Finishes a load or store.
-#[unsafe(no_mangle)]
-pub extern "C" fn knucklepin_finish(
+pub fn knucklepin_finish(
     state: &mut [u32; 48],
     syndrome: &[u32; 16],
     value: u32,
@@ -92,8 +89,7 @@ fn second_in(answer: coprocessor::Answer) -> u32
 }
 
 // Finishes a coprocessor read or write.
-#[unsafe(no_mangle)]
-pub extern "C" fn knucklepin_coprocessor_finish(
+pub fn knucklepin_coprocessor_finish(
     state: &mut [u32; 48],
     syndrome: &[u32; 16],
     first: u32,

@@ -1,4 +1,4 @@
-// The readers and writers for programs in other languages: `rt staticlib knucklepin`.
+// The readers and writers for programs in other languages: each answers with one number.
 #![tactic(auto)]
 
 ghost use Rattle.std.specs.Prelude.{◌≡◌};
@@ -50,40 +50,35 @@ fn rewrite(origin: Origin, reader: u32, writer: u32, word: u64) -> u64
 }
 
 // Reads a syndrome word of a trap from AArch32.
-#[unsafe(no_mangle)]
-pub extern "C" fn knucklepin_read(edition: u32, word: u64) -> u64
+pub fn knucklepin_read(edition: u32, word: u64) -> u64
     ensures { result ≡ packed_read Origin.AArch32 edition word }
 {
     read(Origin::AArch32, edition, word)
 }
 
 // Reads a syndrome word of a trap from AArch32 in one edition and writes the record in another.
-#[unsafe(no_mangle)]
-pub extern "C" fn knucklepin_rewrite(reader: u32, writer: u32, word: u64) -> u64
+pub fn knucklepin_rewrite(reader: u32, writer: u32, word: u64) -> u64
     ensures { result ≡ rewritten Origin.AArch32 reader writer word }
 {
     rewrite(Origin::AArch32, reader, writer, word)
 }
 
 // The same of a trap from AArch64.
-#[unsafe(no_mangle)]
-pub extern "C" fn knucklepin_aarch64_read(edition: u32, word: u64) -> u64
+pub fn knucklepin_aarch64_read(edition: u32, word: u64) -> u64
     ensures { result ≡ packed_read Origin.AArch64 edition word }
 {
     read(Origin::AArch64, edition, word)
 }
 
 // The same of a trap from AArch64.
-#[unsafe(no_mangle)]
-pub extern "C" fn knucklepin_aarch64_rewrite(reader: u32, writer: u32, word: u64) -> u64
+pub fn knucklepin_aarch64_rewrite(reader: u32, writer: u32, word: u64) -> u64
     ensures { result ≡ rewritten Origin.AArch64 reader writer word }
 {
     rewrite(Origin::AArch64, reader, writer, word)
 }
 
 // Reads a word of the short form: 0 where it is taken, else the refusal as one number.
-#[unsafe(no_mangle)]
-pub extern "C" fn knucklepin_short_read(edition: u32, word: u32) -> u64
+pub fn knucklepin_short_read(edition: u32, word: u32) -> u64
     ensures { result ≡ packed_short_read edition word }
 {
     match short::read(edition, Hsr(word)) {
@@ -93,8 +88,7 @@ pub extern "C" fn knucklepin_short_read(edition: u32, word: u32) -> u64
 }
 
 // Reads a word of the short form in one edition and writes the record in another: the word, or all ones where either refuses.
-#[unsafe(no_mangle)]
-pub extern "C" fn knucklepin_short_rewrite(reader: u32, writer: u32, word: u32) -> u64
+pub fn knucklepin_short_rewrite(reader: u32, writer: u32, word: u32) -> u64
     ensures { result ≡ rewritten_short reader writer word }
 {
     match short::read(reader, Hsr(word)) {
@@ -108,8 +102,7 @@ pub extern "C" fn knucklepin_short_rewrite(reader: u32, writer: u32, word: u32) 
 
 // The form of a word that is an A32 load or store: its transfer's number, and 16 more with a register, 32 for a literal; 48 for STM and 49
 // for LDM. All ones where the word is none.
-#[unsafe(no_mangle)]
-pub extern "C" fn knucklepin_a32_form(word: u32) -> u64
+pub fn knucklepin_a32_form(word: u32) -> u64
     ensures { result ≡ a32_form word }
 {
     match a32_rule::decode(word) {
@@ -119,8 +112,7 @@ pub extern "C" fn knucklepin_a32_form(word: u32) -> u64
 }
 
 // Reads an A32 load or store and writes its fields: the word, or all ones where either refuses.
-#[unsafe(no_mangle)]
-pub extern "C" fn knucklepin_a32_rewrite(word: u32) -> u64
+pub fn knucklepin_a32_rewrite(word: u32) -> u64
     ensures { result ≡ rewritten_a32 word }
 {
     match a32_rule::decode(word) {

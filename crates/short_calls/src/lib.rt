@@ -22,8 +22,7 @@ fn editions_of(refusal: Refusal) -> [u32; 2]
 }
 
 // Reads a syndrome word.
-#[unsafe(no_mangle)]
-pub extern "C" fn knucklepin_hsr_read_raw(
+pub fn knucklepin_hsr_read_raw(
     edition: u32,
     hsr: u32,
     syndrome: &mut [u32; 16],
@@ -46,8 +45,7 @@ pub extern "C" fn knucklepin_hsr_read_raw(
 }
 
 // Writes a record.
-#[unsafe(no_mangle)]
-pub extern "C" fn knucklepin_hsr_write_raw(
+pub fn knucklepin_hsr_write_raw(
     edition: u32,
     syndrome: &[u32; 16],
     hsr: &mut u32,
@@ -70,8 +68,7 @@ pub extern "C" fn knucklepin_hsr_write_raw(
 }
 
 // Changes a short record to a long one.
-#[unsafe(no_mangle)]
-pub extern "C" fn knucklepin_widen(mode: u32, from: &[u32; 16], to: &mut [u32; 16]) -> u32
+pub fn knucklepin_widen(mode: u32, from: &[u32; 16], to: &mut [u32; 16]) -> u32
     ensures { WidenedWords (widen_of mode (record_of from.now)) result to.new }
 {
     match widen::widen(mode, record_of(*from)) {

@@ -10,16 +10,14 @@ ghost use Rattle.short_text.specs.Said.{short_said};
 use registers::{Esr, Far, Hpfar, Hsr};
 
 // What is said of a word.
-#[unsafe(no_mangle)]
-pub extern "C" fn knucklepin_explain_word_raw(edition: u32, esr: u64, text: &mut [u8]) -> u64
+pub fn knucklepin_explain_word_raw(edition: u32, esr: u64, text: &mut [u8]) -> u64
     ensures { Appends (word_said edition (record { 0 = esr })) text.old 0 text.new result }
 {
     explain_text::word_said(text, 0, edition, Esr(esr)) as u64
 }
 
 // What is said of a whole trap.
-#[unsafe(no_mangle)]
-pub extern "C" fn knucklepin_explain_trap_raw(
+pub fn knucklepin_explain_trap_raw(
     edition: u32,
     esr: u64,
     far: u64,
@@ -32,8 +30,7 @@ pub extern "C" fn knucklepin_explain_trap_raw(
 }
 
 // What is said of a word of the short form.
-#[unsafe(no_mangle)]
-pub extern "C" fn knucklepin_explain_short_raw(edition: u32, hsr: u32, text: &mut [u8]) -> u64
+pub fn knucklepin_explain_short_raw(edition: u32, hsr: u32, text: &mut [u8]) -> u64
     ensures { Appends (short_said edition (record { 0 = hsr })) text.old 0 text.new result }
 {
     short_text::said(text, 0, edition, Hsr(hsr)) as u64

@@ -91,8 +91,7 @@ fn addresses_in(trap: Trap) -> [u64; 2]
 }
 
 // Reads a whole trap.
-#[unsafe(no_mangle)]
-pub extern "C" fn knucklepin_trap_read_raw(
+pub fn knucklepin_trap_read_raw(
     origin: u32,
     edition: u32,
     esr: u64,
