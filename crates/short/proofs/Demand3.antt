@@ -37,4 +37,4 @@ module _ (a b : ℕ) (hsr : Hsr) (r : Record) (put : write_of a r ≡ Written.Wo
   -- DEMAND 3 in one equation
   pub read_back_lem : read_of b hsr ≡ as_read (Form.read_back short_form b r)
   unfolding read_of write_of
-  read_back_lem = Forms3.read_back short_form sound read_shows written_shows a b hsr.0 r put
+  read_back_lem = Forms3.read_back_lem short_form sound read_shows written_shows a b hsr.0 r put

@@ -41,4 +41,4 @@ module _ (o : Origin) where
     -- DEMAND 3 in one equation
     pub read_back_lem : read_of o b esr ≡ as_read (Form.read_back (long_form o) b r)
     unfolding read_of write_of
-    read_back_lem = Forms3.read_back (long_form o) (sound o) read_shows written_shows a b esr.0 r put
+    read_back_lem = Forms3.read_back_lem (long_form o) (sound o) read_shows written_shows a b esr.0 r put

@@ -13,12 +13,12 @@ twice w n = ap (sum_of w) (sym (neg_ℤ-neg_ℤ (pos n)))
 
 pub returns-in-Plus : goal.returns-in-Plus
 returns-in-Plus c =
-    less c.args.word _ c.wrapping_sub_u32.result (omega arith) c.wrapping_sub_u32.ensures
+    less c.args.word _ c.wrapping_sub_u32.result (omega arith) c.wrapping_sub_u32.ensures.value
     ∙ told (λ (k : Signed). difference_of c.args.word (signed k)) c.in-Plus.is
 
 pub returns-in-Minus : goal.returns-in-Minus
 unfolding sum_of
 returns-in-Minus c =
-    c.wrapping_add_u32.ensures
+    c.wrapping_add_u32.ensures.value
     ∙ twice c.args.word _
     ∙ told (λ (k : Signed). difference_of c.args.word (signed k)) c.in-Minus.is

@@ -9,10 +9,10 @@ use Rattle.signed.proofs.sum.Goals as goal
 pub returns-in-Plus : goal.returns-in-Plus
 unfolding sum_of
 returns-in-Plus c =
-    c.wrapping_add_u32.ensures
+    c.wrapping_add_u32.ensures.value
     ∙ told (λ (k : Signed). sum_of c.args.word (signed k)) c.in-Plus.is
 
 pub returns-in-Minus : goal.returns-in-Minus
 returns-in-Minus c =
-    less c.args.word _ c.wrapping_sub_u32.result (omega arith) c.wrapping_sub_u32.ensures
+    less c.args.word _ c.wrapping_sub_u32.result (omega arith) c.wrapping_sub_u32.ensures.value
     ∙ told (λ (k : Signed). sum_of c.args.word (signed k)) c.in-Minus.is

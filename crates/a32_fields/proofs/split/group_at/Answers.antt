@@ -31,5 +31,5 @@ pub returns-in_default : goal.returns-in_default
 unfolding group_at
 returns-in_default c =
     let g = c.before.before.args.group in
-    let n = c.before.in_default.rest in
+    let n = c.in_default.in_default-own.rest in
     ap Fields.Multiple c.multiple_at.ensures ∙ simp (ne_eqb g 0b000 n.0.0.1, ne_eqb g 0b010 n.0.1, ne_eqb g 0b011 n.1)

@@ -6,11 +6,6 @@ use lib.Seq.{drop-drop}
 use Rattle.log_section.specs.declared.entry.Entry.{Entry}
 use Rattle.log_section.proofs.Numbers.{number_one, low_byte, high_byte}
 use Rattle.log_section.proofs.entry.entry_in.Goals as goal
-use Rattle.log_section.proofs.entry.entry_in.Lts as lts
-
--- the last arm has section 4 alone
-last_of : (c : lts.After-shared_slice_known-in_default-1) → c.before.before.before.args.passed ≡ 3
-last_of c = omega (arith, c.before.before.before.requires, c.before.in_default.rest)
 
 pub returns-in-0 : goal.returns-in-0
 returns-in-0 c =
@@ -23,11 +18,12 @@ returns-in-2 c =
     let a = c.before.before.before.before.args in
     rw (c.before.before.in-2.is, drop-drop 8 a.at a.log.now, c.before.eight-in-2.ensures, c.eight-in-2-2.ensures)
 
+-- the last arm has section 4 alone
 pub returns-in_default : goal.returns-in_default
 returns-in_default c =
-    let start = c.before.before.before.before in
-    let s = start.args.log.now in
-    let room = rw (last_of c.before) at start.requires.1 in
-    let low = low_byte s start.args.at (λ i. (c.shared_slice_known-in_default-2-1.given i).fits) room in
-    let high = high_byte s start.args.at (λ i. (c.shared_slice_known-in_default-2-1.given i).fits) room in
-    rw (last_of c.before, low, high)
+    let s = c.args.log.now in
+    let last : c.args.passed ≡ 3 = omega arith in
+    let room = rw last at c.requires.1 in
+    let low = low_byte s c.args.at (λ i. (c.type_inv.log i).fits) room in
+    let high = high_byte s c.args.at (λ i. (c.type_inv.log i).fits) room in
+    rw (last, low, high)

@@ -1,0 +1,10 @@
+-- `cause::pass::with_level` meets its contract: its branch is the definition's.
+-- Assumes nothing.
+use borrow.Author.Tests.{eq-eqb, ne_eqb}
+use Rattle.cause.proofs.pass.with_level.Goals as goal
+
+pub returns-then-level-eq0 : goal.returns-then-level-eq0
+returns-then-level-eq0 c = simp (eq-eqb _ _ c.if-level-eq0.true)
+
+pub returns-else-level-eq0 : goal.returns-else-level-eq0
+returns-else-level-eq0 c = simp (ne_eqb _ _ c.if-level-eq0.false)

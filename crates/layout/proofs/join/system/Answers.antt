@@ -1,0 +1,15 @@
+-- `layout::join::system` meets its contract: `|` of the fields, each as its call ensures.
+-- Assumes nothing.
+use Rattle.bits.proofs.Or.{◌also◌}
+use Rattle.layout.proofs.join.system.Goals as goal
+
+pub returns : goal.returns
+returns c =
+    c.head_of.ensures
+    also c.place.ensures
+    also c.place-2.ensures
+    also c.place-3.ensures
+    also c.place-4.ensures
+    also c.place-5.ensures
+    also c.place-6.ensures
+    also c.flag.ensures

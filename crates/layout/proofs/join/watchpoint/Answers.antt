@@ -1,0 +1,11 @@
+-- `layout::join::watchpoint` meets its contract: `|` of the fields, each as its call ensures.
+-- Assumes nothing.
+use Rattle.bits.proofs.Or.{◌also◌}
+use Rattle.layout.proofs.join.watchpoint.Goals as goal
+
+pub returns : goal.returns
+returns c =
+    c.head_of.ensures
+    also c.flag.ensures
+    also c.flag-2.ensures
+    also c.place.ensures

@@ -1,0 +1,10 @@
+-- `layout_rule::simd` meets its contract: each number fits its bits, and each call's answer is its rule.
+-- Assumes nothing.
+use mathlib.Core.Path.{ap₂}
+use mathlib.Core.Bool.{true, ◌&&◌}
+use Rattle.bits.proofs.Fields.{fitting_after_lem}
+use Rattle.layout.specs.Fields.{simd_fields}
+use Rattle.layout_rule.proofs.simd.Goals as goal
+
+pub returns : goal.returns
+returns c = ap₂ ◌&&◌ (fitting_after_lem true (simd_fields c.args.r)) c.condition_from.ensures
