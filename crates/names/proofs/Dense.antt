@@ -2,7 +2,7 @@
 -- Assumes nothing.
 use mathlib.Core.Path.{◌≡◌, refl, sym, ap, ◌∙◌}
 use mathlib.Core.Bool.{Bool, true, ◌&&◌}
-use mathlib.Core.List.{List, [], ◌∷◌, map}
+use mathlib.Core.List.{List, [], ◌∷◌}
 use Prim.Native.Nat.{ℕ, zero, suc, ◌+◌, ◌≤◌, ◌<◌}
 use native.Mathlib.Nat.{add-zero, zero-add, add-suc, suc-add, le_of_suc-le-suc, not-suc-le-zero}
 use native.Mathlib.Numerals.{add-one}
@@ -13,7 +13,7 @@ use lib.Dec.{T, ltb, ltb→lt}
 use lib.ListN.{get_or, get_or-map}
 use Rattle.bits.proofs.Booleans.{both_left, both_right}
 use Rattle.names.specs.Name.{Entry, meaning_of}
-use Rattle.names.specs.Table.{Source, no_source, labels, sources, lists, label_at, values_at, tabulate, dense_of}
+use Rattle.names.specs.Table.{Source, no_source, sources, lists, label_at, values_at, tabulate, dense_of}
 
 -- every entry's value is below a size
 abbrev below : ℕ → List Entry → Bool
