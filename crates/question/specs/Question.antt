@@ -1,7 +1,7 @@
 -- A line of the program explain. In trapread's manner: an edition and a syndrome word (crate line). With the two address registers behind
 -- it, ESR, FAR and HPFAR, each of 16 hexadecimal digits: a whole trap. After the word `short`: a short edition and a word of 8 hexadecimal
 -- digits. Every other line is no line.
-use Rattle.std.specs.Prelude.{ℕ, ◌%◌, ◌^◌, Bool, true, cond, ◌&&◌, List, [], ◌∷◌, eqb, length, get_or, take, drop}
+use Rattle.std.specs.Prelude.{ℕ, ◌%◌, ◌^◌, Bool, cond, ◌&&◌, List, eqb, length, get_or, take, drop}
 use Prim.Native.Char.{code}
 use Rattle.line.specs.Line.{word_of, line_of}
 use Rattle.line.specs.declared.Line.{Line}
