@@ -2,7 +2,7 @@
 //! reads and writes that fail or that a signal interrupts.
 
 use crate::log;
-use crate::programs::{answers_of, file_of, state, wait_until_asleep};
+use crate::programs::{answers_of, built, file_of, state, wait_until_asleep};
 use std::fs::File;
 use std::io::{self, Read, Write};
 use std::os::fd::OwnedFd;
@@ -59,11 +59,11 @@ const HELP: [(&str, &str); 3] = [
 /// Two lines that every reader of lines takes, the second without its newline.
 const LINES: &[u8] = b"0 0000000092000005\n1 0000000092000018";
 
-/// Runs the programs of a folder; true when all wrote and told what they must.
+/// Runs the programs of a folder of crates; true when all wrote and told what they must.
 pub fn run(directory: &Path) -> io::Result<bool> {
     let mut all_same = true;
     for (name, help) in HELP {
-        let path = directory.join(name);
+        let path = built(directory, name);
         let runs = runs(name, help)?;
         let mut same = true;
         for run in &runs {

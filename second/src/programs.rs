@@ -97,11 +97,16 @@ impl Program {
     }
 }
 
-/// Runs the programs of a folder; true when all wrote what they must.
+/// Where a proved program of a folder of crates lies: `NAME/out/NAME`.
+pub fn built(directory: &Path, name: &str) -> PathBuf {
+    directory.join(name).join("out").join(name)
+}
+
+/// Runs the programs of a folder of crates; true when all wrote what they must.
 pub fn run(directory: &Path) -> io::Result<bool> {
     let mut all_same = true;
     for program in &PROGRAMS {
-        let path = directory.join(program.name);
+        let path = built(directory, program.name);
         let call = program.call();
         let inputs = (program.inputs)();
         let mut different = 0;
