@@ -1,8 +1,7 @@
 -- `resume::resume` meets its contract: each return's answer and state are the definition's.
 use mathlib.Core.Path.{◌≡◌, sym, ap, ap₂, ◌∙◌}
-use mathlib.Core.Bool.{Bool, true}
+use mathlib.Core.Bool.{Bool}
 use Prim.Native.Nat.{ℕ}
-use borrow.Author.Tests.{not-true, not-false}
 use Rattle.signed.specs.declared.Signed.{Signed}
 use Rattle.status.specs.Sound.{sound}
 use Rattle.exception.specs.declared.state.Guest.{Guest}
@@ -27,62 +26,41 @@ module _ (s : Guest) {m : ℕ} (in_mode : m ≡ mode_of s) where
       ap (λ (g : Guest). record { answer = Returned; state = g })
       (e ∙ ap₂ (λ (n w : ℕ). restored s n w k) in_mode (v ∙ ap (λ (n : ℕ). saved_of n s.saved) in_mode))
 
--- past the first test, and past the second
-passed-sound : (c : goal.Else-not-sound) → sound c.args.state.marks-1 c.args.state.status
-    ≡ true
-passed-sound c = sym c.sound.ensures ∙ not-false _ c.if-not-sound.false-raw
-
-passed-mode : (c : goal.Else-not-banked) → banked (mode_of c.args.state) ≡ true
-passed-mode c =
-    mode-test c.args.state c.field32-mode.ensures
-    c.banked.ensures
-    (not-false _ c.if-not-banked.false-raw)
-
 pub returns-then-not-sound : goal.returns-then-not-sound
 returns-then-not-sound c =
-    let start = c in
-    promised start.args.state start.args.correction
-    (by_answer start.args.state start.args.correction
-    (unsound start.args.state (sym c.sound.ensures ∙ not-true _ c.if-not-sound.true-raw)))
+    let s = c.args.state in
+    let k = c.args.correction in
+    promised s k (by_answer s k (unsound s (sym c.sound.ensures ∙ c.if-not-sound.true)))
 
 pub returns-then-not-banked : goal.returns-then-not-banked
 returns-then-not-banked c =
-    let tested = c in
-    let start = tested in
-    promised start.args.state start.args.correction
-    (by_answer start.args.state start.args.correction
-    (without_saved start.args.state (passed-sound tested)
-    (mode-test start.args.state c.field32-mode.ensures c.banked.ensures (not-true _ c.if-not-banked.true-raw))))
+    let s = c.args.state in
+    let k = c.args.correction in
+    promised s k
+    (by_answer s k
+    (without_saved s (sym c.sound.ensures ∙ c.if-not-sound.false)
+    (mode-test s c.field32-mode.ensures c.banked.ensures c.if-not-banked.true)))
 
 pub returns-then-not-sound-2 : goal.returns-then-not-sound-2
 returns-then-not-sound-2 c =
-    let second = c in
-    let first = second in
-    let start = first in
-    promised start.args.state start.args.correction
-    (by_answer start.args.state start.args.correction
-    (unsound_saved start.args.state (passed-sound first) (passed-mode second)
-    (saved-test start.args.state second.field32-mode.ensures c.saved_of-word.ensures
-    c.sound-2.ensures
-    (not-true _ c.if-not-sound-2.true-raw))))
+    let s = c.args.state in
+    let k = c.args.correction in
+    promised s k
+    (by_answer s k
+    (unsound_saved s (sym c.sound.ensures ∙ c.if-not-sound.false)
+    (mode-test s c.field32-mode.ensures c.banked.ensures c.if-not-banked.false)
+    (saved-test s c.field32-mode.ensures c.saved_of-word.ensures c.sound-2.ensures c.if-not-sound-2.true)))
 
 pub returns : goal.returns
 returns c =
-    let third = c in
-    let second = third in
-    let first = second in
-    let start = first in
-    promised start.args.state start.args.correction
-    (went_back start.args.state second.field32-mode.ensures start.args.correction
-    third.saved_of-word.ensures
-    c.restored-after.ensures
-    ∙ by_answer start.args.state start.args.correction
-    (passed start.args.state
+    let s = c.args.state in
+    let k = c.args.correction in
+    promised s k
+    (went_back s c.field32-mode.ensures k c.saved_of-word.ensures c.restored-after.ensures
+    ∙ by_answer s k
+    (passed s
     record {
-      status = passed-sound first;
-      mode = passed-mode second;
-      saved =
-          saved-test start.args.state second.field32-mode.ensures third.saved_of-word.ensures
-          third.sound-2.ensures
-          (not-false _ third.if-not-sound-2.false-raw);
+      status = sym c.sound.ensures ∙ c.if-not-sound.false;
+      mode = mode-test s c.field32-mode.ensures c.banked.ensures c.if-not-banked.false;
+      saved = saved-test s c.field32-mode.ensures c.saved_of-word.ensures c.sound-2.ensures c.if-not-sound-2.false;
     }))
