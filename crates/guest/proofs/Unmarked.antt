@@ -6,7 +6,7 @@ use Prim.Native.Nat.{ℕ}
 use lib.Dec.{eqb}
 use Rattle.bits.specs.Decide.{needs, decide}
 use Rattle.status.specs.declared.Marks.{Marks}
-use Rattle.status.specs.Base.{unmarked, base_sound, base_entry_status}
+use Rattle.status.specs.Base.{unmarked}
 use Rattle.status.specs.Sound.{sound}
 use Rattle.status.specs.Entry.{entry_status}
 use Rattle.status.proofs.Unmarked.{unmarked_sound, unmarked_entry}

@@ -1,8 +1,8 @@
 -- `guest::injector::inject` meets its contract: each return's answer and state are the definition's.
 use mathlib.Core.Path.{◌≡◌, sym, ap, ◌∙◌}
-use mathlib.Core.Bool.{true}
-use borrow.Author.Tests.{not-true, not-false}
+use mathlib.Core.Bool.{Bool, true}
 use Rattle.status.specs.Sound.{sound}
+use Rattle.exception.specs.Vector.{aligned}
 use Rattle.guest.specs.declared.answer.Answer.TheVariants.{Accepted}
 use Rattle.guest.specs.declared.injection.Injection.{Injection}
 use Rattle.exception.specs.declared.entry.Row.{Row}
@@ -19,22 +19,10 @@ use Rattle.guest.proofs.Answers.{promised}
 use Rattle.guest.proofs.Reports.{answer_by, registers, result, by_answer, unsound, unaligned, judged}
 use Rattle.guest.proofs.injector.inject.Goals as goal
 
--- past the first test
-passed-sound : (c : goal.Else-not-sound) → sound c.args.state.marks-1 c.args.state.status
-    ≡ true
-passed-sound c = sym c.sound.ensures ∙ not-false _ c.if-not-sound.false-raw
-
--- past both, with the report in hand
-settled : (c : goal.After-report_of) {r : Report} → c.report_of.result ≡ r
-    → result c.args.state
-    c.args.what (answer_by r)
-    ≡ injected c.args.state
-    c.args.what
-settled c e =
-    let tested = c in
-    by_answer _ _
-    (judged _ _ (passed-sound tested.before.before) (sym tested.aligned.ensures ∙ not-false _ tested.if-not-aligned.false-raw)
-    ∙ ap answer_by (sym c.report_of.ensures ∙ e))
+-- past both tests, with the report in hand
+settled : (s : Guest) (i : Injection) {x y : Bool} {p r : Report} → x ≡ sound s.marks s.status → x ≡ true → y ≡ aligned s.vbar → y ≡ true
+    → p ≡ report_of i s.faults s.ttbcr → p ≡ r → result s i (answer_by r) ≡ injected s i
+settled s i d e f g h q = by_answer s i (judged s i (sym d ∙ e) (sym f ∙ g) ∙ ap answer_by (sym h ∙ q))
 
 abbrev took : Guest → Injected
 took s = record { answer = Accepted; state = s }
@@ -51,34 +39,38 @@ taken s i {f = f} p q e =
 
 pub returns-then-not-sound : goal.returns-then-not-sound
 returns-then-not-sound c =
-    let start = c in
-    promised start.args.state start.args.what
-    (by_answer start.args.state start.args.what
-    (unsound start.args.state start.args.what (sym c.sound.ensures ∙ not-true _ c.if-not-sound.true-raw)))
+    let s = c.args.state in
+    let i = c.args.what in
+    promised s i (by_answer s i (unsound s i (sym c.sound.ensures ∙ c.if-not-sound.true)))
 
 pub returns-then-not-aligned : goal.returns-then-not-aligned
 returns-then-not-aligned c =
-    let start = c in
-    promised start.args.state start.args.what
-    (by_answer start.args.state start.args.what
-    (unaligned start.args.state start.args.what (passed-sound c.before.before)
-    (sym c.aligned.ensures ∙ not-true _ c.if-not-aligned.true-raw)))
+    let s = c.args.state in
+    let i = c.args.what in
+    promised s i
+    (by_answer s i (unaligned s i (sym c.sound.ensures ∙ c.if-not-sound.false) (sym c.aligned.ensures ∙ c.if-not-aligned.true)))
 
 pub returns-in-NoStatus : goal.returns-in-NoStatus
-returns-in-NoStatus c = promised _ _ (settled c.before.before c.in-NoStatus.is)
+returns-in-NoStatus c =
+    promised _ _
+    (settled c.args.state c.args.what c.sound.ensures c.if-not-sound.false c.aligned.ensures c.if-not-aligned.false
+    c.report_of.ensures c.in-NoStatus.is)
 
 pub returns-in-NoDomain : goal.returns-in-NoDomain
-returns-in-NoDomain c = promised _ _ (settled c.before.before c.in-NoDomain.is)
+returns-in-NoDomain c =
+    promised _ _
+    (settled c.args.state c.args.what c.sound.ensures c.if-not-sound.false c.aligned.ensures c.if-not-aligned.false
+    c.report_of.ensures c.in-NoDomain.is)
 
 pub returns-in-NoAddress : goal.returns-in-NoAddress
-returns-in-NoAddress c = promised _ _ (settled c.before.before c.in-NoAddress.is)
+returns-in-NoAddress c =
+    promised _ _
+    (settled c.args.state c.args.what c.sound.ensures c.if-not-sound.false c.aligned.ensures c.if-not-aligned.false
+    c.report_of.ensures c.in-NoAddress.is)
 
 pub returns-in-Registers : goal.returns-in-Registers
 returns-in-Registers c =
-    let past = c in
-    let e = c.in-Registers.is in
-    let start = past in
-    promised start.args.state start.args.what
-    (taken start.args.state start.args.what c.injection_row.ensures (sym past.report_of.ensures ∙ e)
-    c.enter-after.ensures
-    ∙ settled past e)
+    promised _ _
+    (taken c.args.state c.args.what c.injection_row.ensures (sym c.report_of.ensures ∙ c.in-Registers.is) c.enter-after.ensures
+    ∙ settled c.args.state c.args.what c.sound.ensures c.if-not-sound.false c.aligned.ensures c.if-not-aligned.false
+    c.report_of.ensures c.in-Registers.is)
