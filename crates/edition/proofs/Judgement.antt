@@ -8,7 +8,6 @@ use lib.Dec.{eqb}
 use Rattle.bits.proofs.Arms.{absurd_answer}
 use Rattle.edition.specs.Mask.{mask_below}
 use Rattle.edition.specs.Judge.{judge_of}
-use Rattle.edition.specs.declared.Verdict.{Verdict}
 use Rattle.edition.specs.declared.Verdict.TheVariants.{Taken, Refused}
 use Rattle.edition.specs.declared.Refusal.TheVariants.{NoEdition, OtherEditions}
 use Rattle.edition.proofs.Masks.{mask_bit}

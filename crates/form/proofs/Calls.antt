@@ -2,15 +2,15 @@
 -- Assumes nothing.
 use mathlib.Core.Path.{◌≡◌, refl, ◌∙◌, sym, ap, ap₂}
 use mathlib.Core.Bool.{Bool, true, false, cond, not, true≢false}
-use mathlib.Core.List.{List, [], ◌∷◌, ◌++◌}
+use mathlib.Core.List.{List, ◌++◌}
 use mathlib.Core.Logic.{◌⊎◌, inl, inr, ◌↔◌}
 use Prim.Native.Nat.{ℕ, ◌≤◌, ◌<◌}
 use native.Mathlib.Omega.{arith}
 use borrow.Author.Tests.{ltb-true, lt-ltb, eq-eqb, ne_eqb}
 use lib.Count.{ones}
-use lib.Dec.{eqb, ltb}
+use lib.Dec.{ltb}
 use Rattle.bits.specs.Field.{bit_of}
-use Rattle.bits.specs.Decide.{Test, needs, decide, relabel, AllPass}
+use Rattle.bits.specs.Decide.{Test, decide, relabel, AllPass}
 use Rattle.bits.proofs.Arms.{absurd_answer}
 use Rattle.bits.proofs.Booleans.{not_true_false}
 use Rattle.bits.proofs.Deciding.{decide_append, relabel_append, OneOf, Failing, first_failing, all_pass_relabel}
@@ -20,7 +20,7 @@ use Rattle.edition.specs.declared.Refusal.{Refusal}
 use Rattle.edition.specs.declared.Refusal.TheVariants.{UnknownEdition, NoEdition, OtherEditions}
 use Rattle.edition.proofs.Masks.{mask_bit, mask_bit_above, mask_zero, mask_ones, some_or_none}
 use Rattle.form.specs.Answer.{Answer, given, refused}
-use Rattle.form.specs.Call.{some_has, others, judgement, call_tests, call_of}
+use Rattle.form.specs.Call.{some_has, others, judgement, call_of}
 
 -- no edition has it; some edition has it; the edition is one of the n, it doesn't have it, and another does
 abbrev pub NoneHas : ℕ → (ℕ → Bool) → Type 0

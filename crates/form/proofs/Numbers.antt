@@ -5,7 +5,7 @@ use mathlib.Core.Bool.{Bool, true, false, cond}
 use mathlib.Core.List.{List, [], ◌∷◌}
 use Prim.Native.Nat.{ℕ}
 use borrow.Author.Tests.{ne_eqb}
-use lib.Dec.{eqb, ltb}
+use lib.Dec.{ltb}
 use Rattle.bits.specs.Decide.{Test, needs, decide, relabel}
 use Rattle.edition.specs.Mask.{mask_below, count_below}
 use Rattle.edition.specs.Judge.{refusal_number, refusal_mask, refusal_count}

@@ -1,5 +1,4 @@
 -- The numbers of the answers of code that mean a call's.
-use Rattle.std.specs.Prelude.{ℕ}
 use Rattle.promise.specs.Promise.{Numbers}
 use Rattle.form.specs.Answer.{Answer, number_in, mask_in, count_in}
 

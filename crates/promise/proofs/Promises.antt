@@ -10,7 +10,7 @@ use lib.Dec.{T, eqb}
 use Rattle.bits.specs.Decide.{Test, needs, decide, relabel, FirstFails, unused, distinct, FailsWith}
 use Rattle.bits.proofs.Booleans.{both_left, both_right}
 use Rattle.bits.proofs.Deciding.{OneOf, answer_is, decide_relabel, decided_exactly, decided_with_exactly}
-use Rattle.promise.specs.Promise.{Numbers, six_only, Promise, plain, Answers}
+use Rattle.promise.specs.Promise.{Numbers, Promise, Answers}
 
 module _ {X : Type 0} {said : Numbers X} {x : X} {m c : ℕ} where
   -- what is promised of the right answer is promised of the one that came
