@@ -1,0 +1,14 @@
+-- `short_layout::join::mcr` meets its contract: `|` of the fields, each as its call ensures.
+-- Assumes nothing.
+use Rattle.bits.proofs.Or.{◌also◌}
+use Rattle.short_layout.proofs.join.mcr.Goals as goal
+
+pub returns : goal.returns
+returns c =
+    c.conditional.ensures
+    also c.place.ensures
+    also c.place-2.ensures
+    also c.place-3.ensures
+    also c.place-4.ensures
+    also c.place-5.ensures
+    also c.flag.ensures

@@ -1,0 +1,13 @@
+-- `short_layout::join::mcrr` meets its contract: `|` of the fields, each as its call ensures.
+-- Assumes nothing.
+use Rattle.bits.proofs.Or.{◌also◌}
+use Rattle.short_layout.proofs.join.mcrr.Goals as goal
+
+pub returns : goal.returns
+returns c =
+    c.conditional.ensures
+    also c.place.ensures
+    also c.place-2.ensures
+    also c.place-3.ensures
+    also c.place-4.ensures
+    also c.flag.ensures
