@@ -1,27 +1,24 @@
 -- Of an accepted log, the places of its sections and the entries that a look there gives.
 -- Assumes nothing.
 use mathlib.Core.Path.{◌≡◌, refl, sym, ap, ◌∙◌}
-use mathlib.Core.Bool.{true}
 use mathlib.Core.List.{List}
 use Prim.Native.Nat.{ℕ, zero, suc, ◌+◌, ◌*◌, ◌≤◌, ◌<◌}
 use native.Mathlib.Nat.{add-zero}
 use native.Mathlib.Numerals.{add-one}
 use native.Mathlib.Omega.{arith}
-use borrow.Author.Tests.{lt-ltb, le-leb}
 use lib.ListN.{length, drop, get_or, length-drop}
 use lib.Seq.{drop-drop}
-use Rattle.log_section.specs.Section.{injection_size, sizes, count_of, end_of, section_of, rest_after, count_after, whole_after}
+use Rattle.log_section.specs.Section.{injection_size, sizes, end_of, section_of, rest_after, count_after}
 use Rattle.log_section.specs.Log.{Address, nowhere, byte_in, bytes_word, pair_in, injection_in, injection_byte, domain_of, entries_of, body_after}
 use Rattle.trap_log.specs.Answer.{read_of}
-use Rattle.log_section.specs.Look.{section_at, moved_past, skip_from, entry_in, entry_of, look_at, start_after, entry_given}
+use Rattle.log_section.specs.Look.{section_at, moved_past, skip_from, entry_in, look_at, start_after, entry_given}
 use Rattle.trap_log.specs.declared.answer.Read.TheVariants.{Accepted}
 use Rattle.log_section.specs.declared.section.Section.{Section}
-use Rattle.log_section.specs.declared.entry.Place.{Place}
 use Rattle.log_section.specs.declared.entry.Entry.{Entry}
 use Rattle.log_section.proofs.Codec.{entry_at_lem}
 use Rattle.log_section.proofs.Found.{Whole, is_found}
 use Rattle.log_section.proofs.Places.{place_in, look_found, look_past}
-use Rattle.trap_log.proofs.RoundTrip.{Accepts, accepts}
+use Rattle.trap_log.proofs.RoundTrip.{accepts}
 
 -- the rest after n sections starts where section n + 1 does
 pub rest_at : (s : List ℕ) (n : ℕ) → rest_after s n ≡ drop (start_after s n) s

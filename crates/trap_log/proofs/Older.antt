@@ -2,13 +2,13 @@
 -- Assumes nothing.
 use mathlib.Core.Path.{◌≡◌, refl, sym, ap, ◌∙◌}
 use mathlib.Core.Bool.{false}
-use mathlib.Core.List.{List, [], ◌++◌, append-nil}
+use mathlib.Core.List.{List, [], append-nil}
 use Prim.Native.Nat.{ℕ, ◌+◌, ◌*◌, ◌≤◌, ◌<◌}
 use native.Mathlib.Omega.{arith}
 use borrow.Author.Tests.{le-leb}
 use lib.Dec.{lit≤}
 use lib.ListN.{length}
-use Rattle.log_section.specs.Section.{injection_size, end_of, whole_after, rest_after}
+use Rattle.log_section.specs.Section.{injection_size, whole_after, rest_after}
 use Rattle.log_section.specs.Log.{Entries, byte, section_bytes, log_of, entries_of}
 use Rattle.trap_log.specs.Answer.{read_of}
 use Rattle.trap_log.specs.Older.{older_log}

@@ -9,11 +9,11 @@ use native.Mathlib.Omega.{arith}
 use borrow.Author.Tests.{le-leb, leb-true, eq-eqb, eqb-true}
 use lib.Dec.{lit<}
 use lib.ListN.{length, take, drop, get_or, length-append, length-drop}
-use lib.Seq.{take_at, drop_at, take-add, take-append-le, length-take-le}
+use lib.Seq.{take_at, drop_at, take-add, length-take-le}
 use Rattle.log_section.specs.Number.{little, number, Bytes}
 use Rattle.bits.proofs.Deciding.{all_pass}
-use Rattle.log_section.specs.Section.{injection_size, sizes, count_of, end_of, whole_of, after_of, rest_after, count_after}
-use Rattle.log_section.specs.Log.{Address, Entries, byte, word, pair, injection, byte_in, bytes_word, pair_in, domains_fit, section_bytes, entries_in}
+use Rattle.log_section.specs.Section.{injection_size, sizes, count_of, end_of, after_of, rest_after, count_after}
+use Rattle.log_section.specs.Log.{Address, Entries, byte, word, pair, injection, bytes_word, pair_in, domains_fit, section_bytes, entries_in}
 use Rattle.log_section.specs.Log.{log_of, body_after, injections_of, entries_of, gone_through}
 use Rattle.trap_log.specs.Answer.{read_tests, read_of}
 use Rattle.trap_log.specs.declared.answer.Read.TheVariants.{Accepted}
