@@ -1,6 +1,5 @@
 -- `short_rule::code::editions` meets its contract: the masks of the rules of the edition are kept where the other rules hold.
 -- Assumes nothing.
-use borrow.Author.Rules.{rules}
 use mathlib.Core.Path.{◌≡◌, ◌∙◌, sym, ap, ap₂}
 use mathlib.Core.Bool.{Bool, cond, ◌&&◌}
 use Rattle.bits.specs.Layout.{fitting}
@@ -14,8 +13,7 @@ use Rattle.short_rule.specs.Rule.{layout_rule}
 use Rattle.short_rule.specs.Code.{edition_rule}
 use Rattle.short_rule.specs.Has.{lawful, has, editions_of}
 use Rattle.short_rule.proofs.Masks.{edition_mask}
-use Rattle.short_rule.proofs.code.editions.Statement.{statement}
-use Rattle.short_rule.proofs.code.editions.Tie as tie
+use Rattle.short_rule.proofs.code.editions.Goals as goal
 
 -- the masks of the rules of the edition, kept where the other rules hold
 kept : (r : Record) (h : Head) {long allowed holds : Bool} → h ≡ head_of r → long ≡ il_rule h.class h.isv h.il
@@ -27,34 +25,17 @@ kept r h same l a decided =
     (sym decided ∙ ap₂ ◌&&◌ (ap₂ ◌&&◌ (ap (λ (x : Head). x.own) same) (l ∙ ap (λ (x : Head). il_rule x.class x.isv x.il) same)) a)
     ∙ edition_mask (lawful r) (λ e. edition_rule e r)
 
-head-requires : tie.Need-head-requires
-head-requires c κs = search rules
+pub returns-then-h-il_rule : goal.returns-then-h-il_rule
+returns-then-h-il_rule c =
+    let at = c in
+    let il = at in
+    c.edition_rule.ensures
+    ∙ kept il.args.r il.head-h.result il.head-h.ensures il.il_rule.ensures
+    at.layout_rule.ensures c.if-h-il_rule.true
 
-il-rule-requires : tie.Need-il-rule-requires
-il-rule-requires c κs = search rules
-
-layout-rule-requires : tie.Need-layout-rule-requires
-layout-rule-requires c κs = search rules
-
-edition-rule-requires : tie.Need-edition-rule-requires
-edition-rule-requires c κs = search rules
-
-returns : tie.Need-returns
-returns c =
-    let at = c.before.before in
-    let il = at.before.before in
-    c.edition-rule.ensures
-    ∙ kept il.before.before.args.r il.before.head.result il.before.head.ensures il.il-rule.ensures
-    at.layout-rule.ensures c.before.if1.true
-
-returns-2 : tie.Need-returns-2
-returns-2 c =
-    let at = c.before in
-    let il = at.before.before in
-    kept il.before.before.args.r il.before.head.result il.before.head.ensures il.il-rule.ensures
-    at.layout-rule.ensures c.if1.false
-
-pub editions-spec : {M : Type 1} → statement M
-editions-spec =
-    tie.close
-    (tie.spec head-requires il-rule-requires layout-rule-requires edition-rule-requires returns returns-2)
+pub returns-else-h-il_rule : goal.returns-else-h-il_rule
+returns-else-h-il_rule c =
+    let at = c in
+    let il = at in
+    kept il.args.r il.head-h.result il.head-h.ensures il.il_rule.ensures
+    at.layout_rule.ensures c.if-h-il_rule.false
