@@ -33,6 +33,8 @@ def read(path):
 
 
 def snake(name):
+    # AArch64 is one word
+    name = re.sub(r"_?[aA]Arch(?=\d)", lambda m: ("_" if m.start() else "") + "aarch", name)
     out = re.sub(r"(?<=[a-z0-9'])([A-Z])", lambda m: "_" + m.group(1).lower(), name)
     return re.sub(r"-", "_", out)
 

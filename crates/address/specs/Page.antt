@@ -2,7 +2,7 @@
 use Rattle.std.specs.Prelude.{ℕ, ◌+◌, ◌*◌, ◌^◌, Bool, cond, ◌&&◌, ◌||◌, eqb}
 use Rattle.bits.specs.Field.{field_of}
 use Rattle.edition.specs.Feature.{lpa}
-use Rattle.record.specs.Origin.{from_a_arch64}
+use Rattle.record.specs.Origin.{from_aarch64}
 use Rattle.record.specs.declared.origin.Origin.{Origin}
 use Rattle.registers.specs.declared.Far.{Far}
 use Rattle.registers.specs.declared.Hpfar.{Hpfar}
@@ -17,7 +17,7 @@ hpfar_rule e hpfar = eqb (field_of hpfar.0 63 (page_top e + 1)) 0 && eqb (field_
 
 -- and so must 63:32 of FAR, where the trap came from AArch32; from AArch64 they are free (02, C-23)
 abbrev pub far_rule : Origin → Far → Bool
-far_rule o far = from_a_arch64 o || eqb (field_of far.0 63 32) 0
+far_rule o far = from_aarch64 o || eqb (field_of far.0 63 32) 0
 
 -- a page is 4096 bytes
 abbrev pub page_address : Hpfar → ℕ

@@ -4,14 +4,14 @@ use Rattle.std.specs.Prelude.{ℕ, Bool, true, not, ◌&&◌, ◌||◌, leb, ltb
 use Rattle.iss.specs.Rule.{condition_rule, direction_rule, immediate_rule, addressing_rule, passed_rule, abort_rule, extension_rule}
 use Rattle.bits.specs.Test.{implies}
 use Rattle.iss.specs.Rule.{maintenance_rule}
-use Rattle.record.specs.Origin.{from_a_arch64}
+use Rattle.record.specs.Origin.{from_aarch64}
 use Rattle.record.specs.declared.origin.Origin.{Origin}
 use Rattle.record.specs.declared.kinds.DataAbort.{DataAbort}
 use Rattle.record.specs.declared.kinds.Record.{Record}
 
 -- from AArch64 CV is 1 and COND 1110. The other kinds with a condition, MCR, MCRR, LDC and SMC, have no class there
 abbrev pub condition_from : Origin → Bool → ℕ → Bool
-condition_from o cv cond = implies (from_a_arch64 o) (cv && eqb cond 0b1110) && condition_rule cv cond
+condition_from o cv cond = implies (from_aarch64 o) (cv && eqb cond 0b1110) && condition_rule cv cond
 
 -- ISV 0 needs 23:14 zero
 abbrev pub no_syndrome_rule : DataAbort → Bool
@@ -23,14 +23,14 @@ abbrev pub aarch32_access : DataAbort → Bool
 aarch32_access r = not r.sf && ltb r.sas 3 && not (eqb r.srt 15) && not (eqb r.srt 31)
 
 abbrev pub valid_syndrome_rule : Origin → DataAbort → Bool
-valid_syndrome_rule o r = (from_a_arch64 o || aarch32_access r) && not r.cm && not r.s1ptw
+valid_syndrome_rule o r = (from_aarch64 o || aarch32_access r) && not r.cm && not r.s1ptw
 
 abbrev pub syndrome_rule : Origin → DataAbort → Bool
 syndrome_rule o r = (r.isv || no_syndrome_rule r) && implies r.isv (valid_syndrome_rule o r)
 
 -- SSE 1 needs SAS below 2 and WnR 0; from AArch64 it also goes with SAS 2 where SF is 1, and WnR 0 still
 abbrev pub extension_from : Origin → DataAbort → Bool
-extension_from o r = from_a_arch64 o && r.sf && eqb r.sas 2 && not r.wnr || extension_rule r.sse r.sas r.wnr
+extension_from o r = from_aarch64 o && r.sf && eqb r.sas 2 && not r.wnr || extension_rule r.sse r.sas r.wnr
 
 abbrev pub data_rule : Origin → DataAbort → Bool
 data_rule o r = syndrome_rule o r && extension_from o r && maintenance_rule r.cm r.wnr

@@ -2,7 +2,7 @@
 -- kind of record.
 use Rattle.std.specs.Prelude.{ℕ, Bool, true, false, cond, List, [], ◌∷◌}
 use Rattle.bits.specs.Among.{among}
-use Rattle.record.specs.Origin.{from_a_arch64}
+use Rattle.record.specs.Origin.{from_aarch64}
 use Rattle.record.specs.declared.origin.Origin.{Origin}
 use Rattle.record.specs.declared.kinds.Record.{Record}
 use Rattle.record.specs.declared.kinds.Head.{Head}
@@ -20,7 +20,7 @@ aarch64_classes =
 
 -- every other class is refused
 abbrev pub classes : Origin → List ℕ
-classes o = cond (from_a_arch64 o) aarch64_classes aarch32_classes
+classes o = cond (from_aarch64 o) aarch64_classes aarch32_classes
 
 abbrev pub is_class : Origin → ℕ → Bool
 is_class o c = among (classes o) c

@@ -2,6 +2,6 @@
 use Rattle.std.specs.Prelude.{Bool, true, false}
 use Rattle.record.specs.declared.origin.Origin.{Origin}
 
-abbrev pub from_a_arch64 : Origin → Bool
-from_a_arch64 Origin.AArch32 = false
-from_a_arch64 Origin.AArch64 = true
+abbrev pub from_aarch64 : Origin → Bool
+from_aarch64 Origin.AArch32 = false
+from_aarch64 Origin.AArch64 = true

@@ -1,6 +1,6 @@
 // Where a trap came from. The caller says it: no register does.
 ghost use Rattle.std.specs.Prelude.{◌≡◌};
-ghost use Rattle.record.specs.Origin.{from_a_arch64};
+ghost use Rattle.record.specs.Origin.{from_aarch64};
 
 // The execution state that the guest's code ran in.
 #[derive(Clone, Copy)]
@@ -11,7 +11,7 @@ pub enum Origin {
 
 // The one test of the origin.
 pub fn from_aarch64(origin: Origin) -> bool
-    ensures { result ≡ from_a_arch64 origin }
+    ensures { result ≡ from_aarch64 origin }
 {
     match origin {
         Origin::AArch32 => false,

@@ -7,7 +7,7 @@ use Prim.Native.Nat.{ℕ}
 use Rattle.bits.specs.Field.{field_of}
 use Rattle.edition.proofs.Everywhere.{AllHave, all_masks, all_have}
 use Rattle.record.specs.Class.{classes}
-use Rattle.record.specs.Origin.{from_a_arch64}
+use Rattle.record.specs.Origin.{from_aarch64}
 use Rattle.layout.specs.Fields.{record_word}
 use Rattle.record.specs.declared.origin.Origin.{Origin}
 use Rattle.record.specs.declared.kinds.Record.{Record}
@@ -116,7 +116,7 @@ aarch64_samples =
     ∷ fetch ∷ plain 0x22 ∷ load ∷ serror ∷ breakpoint ∷ step ∷ watchpoint ∷ []
 
 pub samples : Origin → List Record
-samples o = cond (from_a_arch64 o) aarch64_samples aarch32_samples
+samples o = cond (from_aarch64 o) aarch64_samples aarch32_samples
 
 -- one for each class of the origin
 pub every_class : (o : Origin) → classes_of (samples o) ≡ classes o

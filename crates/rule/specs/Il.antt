@@ -5,7 +5,7 @@ use Rattle.std.specs.Prelude.{ℕ, Bool, ◌||◌, List, [], ◌∷◌}
 use Rattle.bits.specs.Among.{among}
 use Rattle.bits.specs.Test.{implies}
 use Rattle.iss.specs.Il.{il_needed}
-use Rattle.record.specs.Origin.{from_a_arch64}
+use Rattle.record.specs.Origin.{from_aarch64}
 use Rattle.record.specs.declared.origin.Origin.{Origin}
 
 -- the classes that the short form lacks or asks no IL of
@@ -13,4 +13,4 @@ abbrev pub il_always : List ℕ
 il_always = 0x22 ∷ 0x2F ∷ 0x30 ∷ 0x32 ∷ 0x34 ∷ 0x3A ∷ []
 
 abbrev pub il_rule : Origin → ℕ → Bool → Bool → Bool
-il_rule o class isv il = implies (from_a_arch64 o || il_needed class isv || among il_always class) il
+il_rule o class isv il = implies (from_aarch64 o || il_needed class isv || among il_always class) il
