@@ -3,7 +3,7 @@
 use mathlib.Core.Path.{◌≡◌, refl, ap, ap₂, ◌∙◌}
 use mathlib.Core.List.{List, [], ◌∷◌, ◌++◌}
 use Prim.Native.Nat.{ℕ}
-use Rattle.bits.specs.Layout.{Field, high_of, low_of, value_of}
+use Rattle.bits.specs.Layout.{Field, high_of, low_of}
 use Rattle.bits.proofs.Fields.{AllBack}
 use Rattle.names.specs.Name.{Name}
 use Rattle.field_text.specs.Line.{line_text, fields_text}

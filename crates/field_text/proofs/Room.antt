@@ -11,7 +11,7 @@ use Rattle.names.specs.Name.{Name, meaning_of}
 use Rattle.names.specs.Table.{values_at}
 use Rattle.names.proofs.Room.{label_length, meaning_length}
 use Rattle.text.specs.Ascii.{ascii}
-use Rattle.text.specs.Numeral.{decimal_text, hex_text}
+use Rattle.text.specs.Numeral.{decimal_text}
 use Rattle.text.proofs.Numerals.{decimal_length, hex_length}
 use Rattle.field_text.specs.Line.{bits_text, line_text}
 use Rattle.field_text.specs.Rows.{row_labels, row_highs, row_lows, row_tests, row_lists, row_other_tests, row_other_lists, shape_firsts}

@@ -1,6 +1,6 @@
 -- Inner contracts, which nobody has to believe: the rows of code's tables. A form's own law says that they are its layout's fields and their
 -- names.
-use Rattle.std.specs.Prelude.{ℕ, zero, suc, ◌+◌, Bool, true, false, not, cond, ◌&&◌, ◌||◌, List, [], ◌∷◌, ◌++◌, eqb, get_or}
+use Rattle.std.specs.Prelude.{ℕ, zero, suc, Bool, true, false, not, cond, ◌&&◌, ◌||◌, List, [], ◌∷◌, ◌++◌, eqb, get_or}
 use Rattle.bits.specs.Field.{field_of, bit_of}
 use Rattle.iss.specs.Rule.{mmu_fault}
 use Rattle.names.specs.Name.{Entry, Name}

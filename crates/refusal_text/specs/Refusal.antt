@@ -1,6 +1,6 @@
 -- A refusal in words (01, 'Numbers a call may answer'): its number and the test that failed, with the bits that it looks at; and with 6
 -- what the editions that have the word ask of a board, and which editions they are, as they are typed.
-use Rattle.std.specs.Prelude.{ℕ, zero, suc, Bool, cond, List, [], ◌∷◌, ◌++◌}
+use Rattle.std.specs.Prelude.{ℕ, zero, suc, Bool, cond, List, [], ◌++◌}
 use Rattle.bits.specs.Field.{bit_of}
 use Rattle.edition.specs.declared.Refusal.{Refusal}
 use Rattle.edition.specs.declared.Refusal.TheVariants.{UnknownEdition, UpperHalf, UnknownClass, ShortInstruction, NoEdition}
