@@ -3,7 +3,6 @@
 use mathlib.Core.Path.{◌≡◌, refl}
 use Prim.Native.Nat.{ℕ}
 use Rattle.short_rule.specs.Edition.{mask_of}
-use Rattle.form.specs.Answer.{given, refused}
 use Rattle.form.proofs.Promises as Forms
 use Rattle.registers.specs.declared.Hsr.{Hsr}
 use Rattle.short_record.specs.declared.kinds.Record.{Record}
