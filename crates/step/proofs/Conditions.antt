@@ -5,7 +5,6 @@ use Rattle.record.specs.declared.kinds.Record.{Record}
 use Rattle.record.specs.declared.kinds.Smc.{Smc}
 use Rattle.status.specs.Entry.{t32}
 use Rattle.status.specs.It.{it_of}
-use Rattle.step.specs.declared.condition.Condition.{Condition}
 use Rattle.step.specs.declared.condition.Condition.TheVariants.{Passed, Stated}
 use Rattle.step.specs.Condition.{condition_of, same, condition_holds, current_condition, passes_by, passes}
 

@@ -1,5 +1,5 @@
 -- What a step leaves alone, and what it makes: for every state and record.
-use Rattle.std.proofs.Common.{◌≡◌, ℕ, ◌+◌, ◌%◌, ◌^◌, Bool, true, false, not, ◌||◌, List, [], ◌∷◌, sym, refl, ap, ◌∙◌}
+use Rattle.std.proofs.Common.{◌≡◌, ℕ, ◌+◌, ◌%◌, ◌^◌, Bool, true, false, not, ◌||◌, List, [], ◌∷◌, refl, ap, ◌∙◌}
 use Rattle.bits.specs.Among.{among}
 use Rattle.bits.proofs.Deciding.{answer_is}
 use Rattle.record.specs.Class.{head_of}
