@@ -29,6 +29,7 @@ settled s w values e = sym (ap (λ (d : Described). finished_by s d values) e)
 
 -- ---- the first test that fails gives the number, which is that of describing the word
 
+-- the number of the answer to an A32 load or store
 abbrev pub number_in : Finished → ℕ
 number_in f = finish_number f.outcome.answer
 

@@ -9,22 +9,28 @@ use Rattle.a32_fields.specs.declared.kinds.Transfer.TheVariants.{Ldr, Str, Ldrb,
 use Rattle.a32_fields.specs.declared.kinds.Fields.{Fields}
 use Rattle.a32_rule.specs.Legal.{legal}
 
+-- fields with an immediate offset, of a transfer
 immediate : Transfer → Fields
 immediate x = Fields.Immediate record { transfer = x; cond = 14; p = true; u = true; w = false; rn = 1; rt = 2; imm = 4 }
 
+-- fields with an offset register, of a transfer
 register : Transfer → Fields
 register x = Fields.Register record { transfer = x; cond = 14; p = true; u = true; w = false; rn = 1; rt = 2; rm = 5 }
 
+-- fields of a literal, of a transfer
 literal : Transfer → Fields
 literal x = Fields.Literal record { transfer = x; cond = 14; u = true; rt = 2; imm = 4 }
 
+-- fields of LDM or STM in one of their four modes
 multiple : Bool → Bool → Bool → Fields
 multiple load p u = Fields.Multiple record { load = load; cond = 14; p = p; u = u; w = false; rn = 13; list = 0x4070 }
 
+-- all of some fields are legal
 abbrev pub all_legal : List Fields → Bool
 all_legal [] = true
 all_legal (f ∷ fs) = legal f && all_legal fs
 
+-- fields of each form
 pub samples : List Fields
 unfolding immediate register literal multiple
 samples =

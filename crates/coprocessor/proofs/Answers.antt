@@ -43,6 +43,7 @@ module _ (s : Guest) (r : Record) (first second : ℕ) where
 
 -- ---- the first test that fails gives the number
 
+-- the number of the answer to a coprocessor read or write
 abbrev pub number_in : Finished → ℕ
 number_in f = transfer_number f.answer
 

@@ -31,6 +31,7 @@ use Rattle.coprocessor.proofs.Flags.{sound_status}
 abbrev pub flagged : Guest → Mcr → ℕ → ℕ
 flagged s r value = cond r.direction (status_after s.status r.rt value) s.status
 
+-- PC moved, and IT advanced in a given status word
 pub record Past (s after : Guest) (il : Bool) (word : ℕ) : Type 0 where
   pub pc : after.pc ≡ (s.pc + bytes_of il) % 2 ^ 32
   pub status : after.status ≡ it_advanced word

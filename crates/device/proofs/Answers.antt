@@ -54,6 +54,7 @@ taken s r value h d v = settled s (Record.DataAbort r) value h d (ap (λ (b : Bo
 
 -- ---- the first test that fails gives the number
 
+-- the number of the answer to an access
 abbrev number_in : Finished → ℕ
 number_in f = access_number f.answer
 

@@ -11,6 +11,7 @@ use Rattle.refusal_text.proofs.Why.{some}
 use Rattle.fault_code.specs.Code.{data_code}
 use Rattle.explain_text.proofs.Features.{all_below, below}
 
+-- no edition has a fault code, or it has a name
 abbrev named : ℕ → Bool
 named code = eqb (mask_below 16 (λ e. data_code e code)) 0 || some (meaning_of fault_codes code)
 

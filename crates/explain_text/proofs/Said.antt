@@ -36,6 +36,7 @@ use Rattle.explain_text.specs.Word.{refused_text, read_text}
 use Rattle.explain_text.specs.Trap.{addresses_text, hpfar_text, answer_text}
 use Rattle.explain_text.specs.Inner.{refused_lines, read_lines, answer_lines}
 
+-- the origin of the traps that are told of: AArch32
 abbrev o : Origin
 o = Origin.AArch32
 

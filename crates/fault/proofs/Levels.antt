@@ -17,6 +17,7 @@ use Rattle.fault.specs.Fault.{domain_in, dfsr_of, dfsr_word, is_code}
 abbrev pub has_level : Bool → ℕ → Bool
 has_level long l = leb 1 l && leb l (cond long 3 2)
 
+-- a format has a fault: one that has levels where it has the fault's level
 abbrev pub has_code : Bool → Fault → Bool
 has_code long External = true
 has_code long (Translation l) = has_level long l

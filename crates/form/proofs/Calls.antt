@@ -26,9 +26,11 @@ use Rattle.form.specs.Call.{some_has, others, judgement, call_of}
 abbrev pub NoneHas : ℕ → (ℕ → Bool) → Type 0
 NoneHas n test = (x : ℕ) → x < n → test x ≡ false
 
+-- some edition has it
 abbrev pub OneHas : ℕ → (ℕ → Bool) → Type 0
 OneHas n test = (x : ℕ) × (x < n) × (test x ≡ true)
 
+-- the edition is one of the n, it doesn't have it, and another does
 abbrev pub OthersHave : ℕ → (ℕ → Bool) → ℕ → Type 0
 OthersHave n test e = (ltb e n ≡ true) × (test e ≡ false) × OneHas n test
 

@@ -6,6 +6,7 @@ use Rattle.edition.specs.declared.Refusal.{Refusal}
 use Rattle.form.specs.Answer.{Answer, given, refused}
 use Rattle.form.specs.Form.{Form, again, read_back, carried_from}
 
+-- each answer of a call is shown by one value of code, and what that value means is the answer
 pub record Shows {A X : Type 0} (shown : Answer A → X) (means : X → Answer A) : Type 0 where
   pub same : (a : Answer A) → means (shown a) ≡ a
 

@@ -43,6 +43,7 @@ decided s i = first_exactly (injection_numbers s i) tt (answered s i)
 
 -- ---- an injection is taken exactly when it passes the five tests
 
+-- the five tests of an injection pass
 pub record Passes (s : Guest) (i : Injection) : Type 0 where
   pub status : sound s.marks s.status ≡ true
   pub vbar : aligned s.vbar ≡ true

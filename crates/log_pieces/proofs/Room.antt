@@ -17,6 +17,7 @@ use Rattle.trap_text.proofs.Room.{trap_length}
 use Rattle.log_pieces.specs.Text.{is_cut, shown, trap_pieces, injection_piece, entry_pieces, first_text, cut_in, last_text, later_pieces}
 use Rattle.log_pieces.specs.Text.{pieces_in}
 
+-- a text of at most 65,536 bytes
 abbrev pub Short : List ℕ → Type 0
 Short text = length text ≤ 65536
 

@@ -41,6 +41,7 @@ paired_again (a ∷ rest) = ap (λ (more : List Address). a ∷ more) (paired_ag
 
 -- WRITTEN AGAIN: for every accepted log and every buffer, 17 where the log has no room there, else the same bytes at its front
 module _ (s : List ℕ) (b : Bytes s) {gone : ℕ} (e : read_of s ≡ Accepted gone) where
+  -- the entries of the log
   abbrev own : Entries
   own = entries_of s
 
@@ -101,9 +102,11 @@ pub record Fits (l : Lists) : Type 0 where
 
 -- READ BACK: what was written into any buffer is accepted, with the entries that were given, and what lies past it is as it was
 module _ (l : Lists) (fits : Fits l) (before : List ℕ) {n : ℕ} (w : written_of l (length before) ≡ Log n) where
+  -- the entries that the lists make
   abbrev given : Entries
   given = entries_from l
 
+  -- the buffer after they were written
   abbrev after : List ℕ
   after = buffer_after (written_of l (length before)) (log_of given) before
 

@@ -75,6 +75,7 @@ abbrev pub injections : List Injection → List Entry
 injections [] = []
 injections (i ∷ is) = injecting i ∷ injections is
 
+-- the calls of a nest, each with the answer that is defined
 abbrev pub defined : Guest → List Entry → List Made
 defined s [] = []
 defined s (e ∷ es) =

@@ -23,6 +23,7 @@ use Rattle.resume.specs.Nest.{modes_of, written_by, distinct_modes}
 use Rattle.nest.specs.Entry.{Entry, injecting}
 use Rattle.nest.specs.Nest.{AllTaken, nested, AllReturn, exceptions}
 
+-- a state in User mode
 abbrev pub first : Guest
 first =
     record {
@@ -37,6 +38,7 @@ first =
       marks = record { pan = false; ssbs = false; dit = false };
     }
 
+-- two undefined instructions
 abbrev pub twice : List Entry
 twice = injecting UndefinedAt ∷ injecting UndefinedAt ∷ []
 

@@ -90,9 +90,11 @@ module _ {S : Type 0} (d : Delivery S) where
   -- THREE IS REACHED: where a state is taken and has every mask bit 0, there is a run, with nothing waiting at the start, in which the two
   -- other kinds and then k are raised and three steps made, and k isn't delivered by the second of them
   module _ (s : S) (t : taken d s ≡ true) (unmasked : (k : Kind) → d.mask s k ≡ false) where
+    -- a step that delivers a kind
     abbrev delivers : Kind → Made S
     delivers k = delivering s (delivered k) (d.injected s k)
 
+    -- three steps that deliver the kind that was raised last of three in the third
     abbrev pub three_steps : Kind → List (Made S)
     three_steps k = delivers (neighbour k true) ∷ delivers (neighbour k false) ∷ delivers k ∷ []
 

@@ -31,11 +31,13 @@ use Rattle.reason.specs.Reason.{some_code, some_set, some_syndrome, rule_tests, 
 use Rattle.reason.proofs.Fits.{fits_at}
 use Rattle.reason.proofs.Tests.{numbered, all_passed, of_some_test}
 
+-- the origin whose words have reasons: AArch32
 abbrev pub o : Origin
 o = Origin.AArch32
 
 -- ---- the numbers of the tests
 
+-- those that a word refused 5 may break
 abbrev pub rule_numbers : List ℕ
 rule_numbers = 1 ∷ 2 ∷ 3 ∷ 4 ∷ 5 ∷ 6 ∷ 7 ∷ 8 ∷ 9 ∷ 10 ∷ 11 ∷ 12 ∷ 13 ∷ 14 ∷ 15 ∷ 16 ∷ 17 ∷ 18 ∷ 19 ∷ 20 ∷ []
 

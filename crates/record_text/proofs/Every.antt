@@ -15,6 +15,7 @@ use Rattle.record.specs.Class.{aarch32_classes, head_of}
 use Rattle.record.specs.declared.kinds.Record.{Record}
 use Rattle.record_text.specs.Names.{names_of}
 
+-- a text isn't empty
 abbrev some : List ℕ → Bool
 some [] = false
 some (byte ∷ text) = true

@@ -17,5 +17,6 @@ abbrev pub some : List ℕ → Bool
 some [] = false
 some (byte ∷ text) = true
 
+-- a rule has a text
 abbrev pub told : ℕ → Bool
 told rule = some (meaning_of reasons rule)

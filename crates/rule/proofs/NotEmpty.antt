@@ -19,45 +19,53 @@ abbrev pub classes_of : List Record → List ℕ
 classes_of [] = []
 classes_of (r ∷ rs) = field_of (record_word r) 31 26 ∷ classes_of rs
 
--- an MRC, an MRRC, of a class
+-- an MRC, of a class
 mrc : ℕ → Record
 mrc c =
     Record.Mcr
     record { class = c; il = true; cv = true; cond = 14; opc2 = 0; opc1 = 0; crn = 0; rt = 0; crm = 0; direction = true }
 
+-- an MRRC, of a class
 mrrc : ℕ → Record
 mrrc c = Record.Mcrr record { class = c; il = true; cv = true; cond = 14; opc1 = 0; rt2 = 0; rt = 0; crm = 0; direction = true }
 
--- a record without fields, a call, of a class
+-- a record without fields, of a class
 plain : ℕ → Record
 plain c = Record.Plain record { class = c; il = true }
 
+-- an instruction with an immediate, of a class
 call : ℕ → Record
 call c = Record.Call record { class = c; il = true; imm16 = 1 }
 
--- what both origins have alike
+-- a WFI
 wfi : Record
 wfi = Record.Wfx record { il = true; cv = true; cond = 14; ti = false }
 
+-- a SIMD or floating-point instruction
 simd : Record
 simd = Record.Simd record { il = true; cv = true; cond = 14 }
 
+-- an instruction abort, a translation fault of level 1
 fetch : Record
 fetch = Record.InstructionAbort record { il = true; set = 0; fnv = false; ea = false; s1ptw = false; code = 5 }
 
+-- an SError interrupt that is not classified
 serror : Record
 serror = Record.SError record { il = true; aet = 0; ea = false; code = 0 }
 
+-- a breakpoint
 breakpoint : Record
 breakpoint = Record.Debug record { class = 0x30; il = true }
 
+-- a software step
 step : Record
 step = Record.Step record { il = true; isv = true; ex = false }
 
+-- a watchpoint hit by a write
 watchpoint : Record
 watchpoint = Record.Watchpoint record { il = true; cm = false; wnr = true }
 
--- a word store of register 3; and from AArch64 a load of 64 bits into register 31
+-- a word store of register 3
 store : Record
 store =
     Record.DataAbort
@@ -78,6 +86,7 @@ store =
       code = 5;
     }
 
+-- from AArch64 a load of 64 bits into register 31
 load : Record
 load =
     Record.DataAbort
@@ -98,6 +107,7 @@ load =
       code = 5;
     }
 
+-- a record of each class from AArch32
 aarch32_samples : List Record
 unfolding mrc mrrc plain call wfi simd fetch store serror breakpoint step watchpoint
 aarch32_samples =
@@ -108,6 +118,7 @@ aarch32_samples =
     ∷ fetch ∷ plain 0x22 ∷ store ∷ serror ∷ breakpoint ∷ step ∷ watchpoint ∷ call 0x38
     ∷ Record.Debug record { class = 0x3A; il = true } ∷ []
 
+-- a record of each class from AArch64
 aarch64_samples : List Record
 unfolding plain call wfi simd fetch load serror breakpoint step watchpoint
 aarch64_samples =
@@ -115,6 +126,7 @@ aarch64_samples =
     ∷ Record.System record { il = true; op0 = 3; op2 = 0; op1 = 0; crn = 0; rt = 0; crm = 0; direction = true }
     ∷ fetch ∷ plain 0x22 ∷ load ∷ serror ∷ breakpoint ∷ step ∷ watchpoint ∷ []
 
+-- a record of each class, from each origin
 pub samples : Origin → List Record
 samples o = cond (from_aarch64 o) aarch64_samples aarch32_samples
 

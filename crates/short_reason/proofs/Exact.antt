@@ -35,6 +35,7 @@ use Rattle.short_reason.proofs.Fits.{fits_at}
 
 -- ---- the numbers of the tests
 
+-- the numbers of the rules that a word refused 5 may break
 abbrev pub rule_numbers : List ℕ
 rule_numbers =
     1 ∷ 2 ∷ 3 ∷ 4 ∷ 5 ∷ 6 ∷ 7 ∷ 8 ∷ 9 ∷ 10 ∷ 12 ∷ 13 ∷ 14 ∷ 17 ∷ 19 ∷ 21 ∷ 22 ∷ 23 ∷ 24 ∷ 25 ∷ []

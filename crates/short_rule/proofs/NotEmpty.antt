@@ -17,15 +17,17 @@ abbrev pub classes_of : List Record → List ℕ
 classes_of [] = []
 classes_of (r ∷ rs) = field_of (record_word r) 31 26 ∷ classes_of rs
 
--- an MRC, an MRRC, an SVC or HVC, of a class
+-- an MRC, of a class
 mrc : ℕ → Record
 mrc c =
     Record.Mcr
     record { class = c; il = true; cv = true; cond = 14; opc2 = 0; opc1 = 0; crn = 0; rt = 0; crm = 0; direction = true }
 
+-- an MRRC, of a class
 mrrc : ℕ → Record
 mrrc c = Record.Mcrr record { class = c; il = true; cv = true; cond = 14; opc1 = 0; rt2 = 0; rt = 0; crm = 0; direction = true }
 
+-- a record of each class
 pub samples : List Record
 unfolding mrc mrrc
 samples =

@@ -9,15 +9,19 @@ use Rattle.step.specs.declared.condition.Condition.TheVariants.{Passed, Stated}
 use Rattle.step.specs.Condition.{condition_of, same, condition_holds, current_condition, passes_by, passes}
 
 module _ (w : ℕ) where
+  -- N of a status word
   abbrev n : Bool
   n = bit_of w 31
 
+  -- Z of it
   abbrev z : Bool
   z = bit_of w 30
 
+  -- C of it
   abbrev c : Bool
   c = bit_of w 29
 
+  -- V of it
   abbrev v : Bool
   v = bit_of w 28
 

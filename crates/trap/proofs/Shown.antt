@@ -66,6 +66,7 @@ free counts right h = ap (λ (b : Bool). not b || right) h
 module _ (o : Origin) where
   -- ---- when a trap is shown
 
+  -- a trap is shown: its syndrome is taken, the registers that count are right, and the trap is made from them
   pub record ShownBy (e : ℕ) (esr : Esr) (far : Far) (hpfar : Hpfar) (t : Trap) : Type 0 where
     pub syndrome : Record
     pub taken : read_of o e esr ≡ Read.Taken syndrome

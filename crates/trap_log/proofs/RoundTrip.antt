@@ -28,6 +28,7 @@ none (x ∷ l) h = absurd (omega arith)
 
 -- numbers of so many bytes: an entry of the editions, the syndromes and the injections, and half of an address
 module _ (width : ℕ) where
+  -- a number fits so many bytes
   abbrev pub Fitting : ℕ → Type 0
   Fitting n = n < 256 ^ width
 
@@ -59,6 +60,7 @@ module _ (width : ℕ) where
       → Each Fitting entries → entries_in width (λ x. number (take width x)) (count_of s) (drop 4 s) ≡ entries
   numbers_read = section_read width (little width) (λ x. number (take width x)) Fitting (length_little width) number_back number_again
 
+-- an address fits its sixteen bytes
 pub record PairFits (a : Address) : Type 0 where
   pub far : Fitting 8 a.far
   pub hpfar : Fitting 8 a.hpfar
