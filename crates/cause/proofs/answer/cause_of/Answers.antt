@@ -5,13 +5,17 @@ use mathlib.Core.Bool.{true, not}
 use Prim.Native.Nat.{ℕ}
 use lib.Dec.{eqb}
 use borrow.Author.Tests.{ne_eqb}
+use Rattle.record.specs.declared.kinds.Record.{Record}
+use Rattle.record.specs.declared.origin.Origin.{Origin}
+use Rattle.rule.specs.Has.{editions_of}
 use Rattle.cause.specs.declared.answer.Answer.{Answer}
 use Rattle.cause.specs.Answer.{had}
 use Rattle.cause.proofs.Answers.{promised, no_edition, settled}
 use Rattle.cause.proofs.answer.cause_of.Goals as goal
 
-passed : (c : goal.Else-editions-eq0) → had c.args.origin c.args.what ≡ true
-passed c = ap (λ (n : ℕ). not (eqb n 0)) (sym c.editions.ensures) ∙ ap not (ne_eqb _ 0 c.if-editions-eq0.false)
+-- past the first test, some edition has the record
+passed : (o : Origin) (r : Record) {n : ℕ} → n ≡ editions_of o r → (n ≡ 0 → ⊥) → had o r ≡ true
+passed o r same some = ap (λ (n : ℕ). not (eqb n 0)) (sym same) ∙ ap not (ne_eqb _ 0 some)
 
 pub returns-then-editions-eq0 : goal.returns-then-editions-eq0
 returns-then-editions-eq0 c =
@@ -21,23 +25,22 @@ returns-then-editions-eq0 c =
 
 pub returns-in-None : goal.returns-in-None
 returns-in-None c =
-    let past = c in
-    let a = past.args in
+    let a = c.args in
     promised a.origin a.what
-    (settled a.origin a.what (passed past) (sym c.addresses.ensures ∙ c.in-None.is))
+    (settled a.origin a.what (passed a.origin a.what c.editions.ensures c.if-editions-eq0.false)
+    (sym c.addresses.ensures ∙ c.in-None.is))
 
 pub returns-in-Virtual : goal.returns-in-Virtual
 returns-in-Virtual c =
-    let past = c in
-    let a = past.args in
+    let a = c.args in
     promised a.origin a.what
-    (settled a.origin a.what (passed past) (sym c.addresses.ensures ∙ c.in-Virtual.is))
+    (settled a.origin a.what (passed a.origin a.what c.editions.ensures c.if-editions-eq0.false)
+    (sym c.addresses.ensures ∙ c.in-Virtual.is))
 
 pub returns-in-Abort : goal.returns-in-Abort
 returns-in-Abort c =
-    let call = c in
-    let past = call in
-    let a = past.args in
+    let a = c.args in
     promised a.origin a.what
     (ap Answer.Caused c.cause_at.ensures
-    ∙ settled a.origin a.what (passed past) (sym call.addresses.ensures ∙ c.in-Abort.is))
+    ∙ settled a.origin a.what (passed a.origin a.what c.editions.ensures c.if-editions-eq0.false)
+    (sym c.addresses.ensures ∙ c.in-Abort.is))
