@@ -1,5 +1,5 @@
 -- The fields at a word's bits, by the group in 27:25 (Layout.antt read the other way). Nothing here has to be believed beside those lines:
--- it takes the word of fields that fit, and whose form is their own, back to them (`Fields-back`, proofs/RoundTrip.antt).
+-- it takes the word of fields that fit, and whose form is their own, back to them (`fields_back`, proofs/RoundTrip.antt).
 use Rattle.std.specs.Prelude.{ℕ, ◌+◌, ◌*◌, Bool, cond, ◌&&◌, eqb}
 use Rattle.bits.specs.Field.{bit_of, field_of}
 use Rattle.a32_fields.specs.Code.{loads}

@@ -1,4 +1,4 @@
--- The number of each answer.
+-- The number of each answer to an A32 load or store that is finished.
 use Rattle.std.specs.Prelude.{ℕ}
 use Rattle.a32_finish.specs.declared.answer.Answer.{Answer}
 use Rattle.a32_finish.specs.declared.answer.Answer.TheVariants.{Loaded, Stored, UnsoundStatus, T32State, NoForm}

@@ -27,7 +27,7 @@ use Rattle.coprocessor.proofs.Flags.{sound_status}
 
 -- ---- PC and the status word
 
--- one register: PC moves on and IT advances, in the old status word or in one whose flags a read has set
+-- the old status word, or the one whose flags a read set
 abbrev pub flagged : Guest → Mcr → ℕ → ℕ
 flagged s r value = cond r.direction (status_after s.status r.rt value) s.status
 
@@ -37,6 +37,7 @@ pub record Past (s after : Guest) (il : Bool) (word : ℕ) : Type 0 where
   pub status : after.status ≡ it_advanced word
   pub kept : Kept s after
 
+-- one register: PC moves on and IT advances, in the old status word or in one whose flags a read has set
 pub one_steps : (s : Guest) (r : Mcr) (value : ℕ) → Past s (one s r value).state r.il (flagged s r value)
 unfolding one stepped
 one_steps s r value = go r.direction

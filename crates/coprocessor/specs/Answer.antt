@@ -1,4 +1,4 @@
--- The number of each answer.
+-- The number of each answer to a coprocessor read or write that is finished.
 use Rattle.std.specs.Prelude.{ℕ}
 use Rattle.coprocessor.specs.declared.answer.Answer.{Answer}
 use Rattle.coprocessor.specs.declared.answer.Answer.TheVariants.{Read, Written, WrittenTwo, NoEdition, UnsoundStatus, NoTransfer}

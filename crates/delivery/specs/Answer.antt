@@ -1,4 +1,4 @@
--- The number of each answer, and the answer as the plain queue's.
+-- The number of each answer to a delivery step (02, C-19), and the answer as the plain queue's.
 use Rattle.std.specs.Prelude.{ℕ}
 use Rattle.pending.specs.Step.{refused, nothing, delivered}
 use Rattle.pending.specs.Step as plain

@@ -1,5 +1,5 @@
 // A record of the long form as lines of text: each field's name, bits and value, and what the manual says of the value. The lines are taken
-// from the record's word (`word-said`, proofs/Record.antt).
+// from the record's word (`word_said_lem`, proofs/Record.antt).
 #![tactic(auto)]
 
 ghost use Rattle.text.specs.Append.{Appends};
