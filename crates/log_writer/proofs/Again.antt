@@ -3,10 +3,9 @@
 -- Assumes nothing.
 use mathlib.Core.Path.{◌≡◌, refl, sym, ap, ◌∙◌}
 use mathlib.Core.Bool.{true}
-use mathlib.Core.List.{List, [], ◌∷◌, ◌++◌}
-use Prim.Native.Nat.{ℕ, zero, suc, ◌+◌, ◌*◌, ◌^◌, ◌≤◌, ◌<◌, max}
+use mathlib.Core.List.{List, [], ◌∷◌}
+use Prim.Native.Nat.{ℕ, suc, ◌+◌, ◌^◌, ◌≤◌, ◌<◌}
 use native.Mathlib.Omega.{arith}
-use lib.Dec.{lit<}
 use lib.ListN.{length, take, drop, get_or}
 use lib.Seq.{take_at, drop_at}
 use Rattle.log_section.specs.Number.{Bytes}
@@ -20,8 +19,7 @@ use Rattle.trap_log.proofs.RoundTrip.{Fitting, PairFits, Writable, accepts, log_
 use Rattle.trap_log.proofs.RoundTrip.{entries_fit}
 use Rattle.log_writer.specs.Lists.{Lists, paired, entries_from, fars_of, hpfars_of, lists_of}
 use Rattle.log_writer.specs.Write.{number_of, length_in, length_by, written_of, buffer_after}
-use Rattle.log_writer.specs.declared.answer.Written.{Written}
-use Rattle.log_writer.specs.declared.answer.Written.TheVariants.{Log, TooLong, Unequal, NoRoom}
+use Rattle.log_writer.specs.declared.answer.Written.TheVariants.{Log, NoRoom}
 use Rattle.log_writer.proofs.Putting.{paired_length}
 use Rattle.log_writer.proofs.Tests.{no_room_lem, has_room}
 use Rattle.log_writer.proofs.Answers.{zero_exactly}

@@ -3,13 +3,13 @@
 use mathlib.Core.Path.{◌≡◌, refl, sym, ap, ◌∙◌}
 use mathlib.Core.List.{List, [], ◌∷◌, ◌++◌}
 use Prim.Native.Nat.{ℕ, zero, suc, ◌+◌, ◌*◌, ◌/◌, ◌%◌, ◌≤◌, ◌<◌}
-use native.Mathlib.Nat.{add-zero, add-suc, suc-add, add_assoc, zero-mul, suc-mul, div-div-eq-div-mul, mod-eq_of_lt}
+use native.Mathlib.Nat.{add-zero, add_assoc, zero-mul, suc-mul, div-div-eq-div-mul, mod-eq_of_lt}
 use native.Mathlib.Numerals.{add-one}
 use native.Mathlib.Omega.{arith}
 use lib.ListN.{length, drop, get_or, set}
 use lib.Seq.{sets, length-sets, drop-cons, drop-length}
 use Rattle.log_section.specs.Number.{little}
-use Rattle.log_section.specs.Log.{Address, byte, pair, nowhere, entry_bytes}
+use Rattle.log_section.specs.Log.{byte, pair, nowhere, entry_bytes}
 use Rattle.log_section.proofs.Numbers.{length_little}
 use Rattle.log_writer.specs.Lists.{paired}
 

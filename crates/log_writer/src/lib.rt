@@ -31,7 +31,7 @@ pub fn write<'a, 'b>(
     injections: &'a [u16],
     out: &'b mut [u8],
 ) -> Written
-    ensures { Writing record { editions = editions.entry.now; syndromes = syndromes.entry.0.now; fars = fars.entry.0.now; hpfars = hpfars.entry.0.now; injections = injections.now } out.old out.new result }
+    ensures { Writing record { editions = editions.now; syndromes = syndromes.entry.0.now; fars = fars.entry.0.now; hpfars = hpfars.entry.0.now; injections = injections.now } out.old out.new result }
 {
     lists::write_lists(editions, syndromes.0, fars.0, hpfars.0, injections, out)
 }

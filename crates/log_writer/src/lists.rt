@@ -60,7 +60,7 @@ pub(crate) fn write_lists<'a, 'b>(
     injections: &'a [u16],
     out: &'b mut [u8],
 ) -> Written
-    ensures { Writing record { editions = editions.entry.now; syndromes = syndromes.now; fars = fars.now; hpfars = hpfars.now; injections = injections.now } out.old out.new result }
+    ensures { Writing record { editions = editions.now; syndromes = syndromes.now; fars = fars.now; hpfars = hpfars.now; injections = injections.now } out.old out.new result }
 {
     let addresses = larger(fars.len(), hpfars.len());
     let length = length_by(editions.len(), syndromes.len(), addresses, injections.len());
