@@ -1,5 +1,5 @@
 -- Laws of the answer, and of the state beside it, for every record, device value and state.
-use mathlib.Core.Path.{◌≡◌, refl, sym, ap, ◌∙◌}
+use mathlib.Core.Path.{◌≡◌, refl, ap, ◌∙◌}
 use mathlib.Core.Bool.{Bool, true, false, cond, not}
 use mathlib.Core.List.{[], ◌∷◌}
 use mathlib.Core.Logic.{◌↔◌}
@@ -21,8 +21,7 @@ use Rattle.step.specs.Over.{had}
 use Rattle.device.specs.declared.access.Described.{Described}
 use Rattle.device.specs.declared.access.Described.TheVariants.{Access, Nothing}
 use Rattle.device.specs.declared.access.Finished.{Finished}
-use Rattle.device.specs.declared.answer.Answer.{Answer}
-use Rattle.device.specs.declared.answer.Answer.TheVariants.{Loaded, Stored, NoEdition, UnsoundStatus, NotDescribed}
+use Rattle.device.specs.declared.answer.Answer.TheVariants.{NoEdition, UnsoundStatus}
 use Rattle.device.specs.Answer.{access_number, access_list}
 use Rattle.device.specs.Finish.{described_of, is_access, access_numbers, stored, loaded, accessed, refusing, by_description, finished}
 use Rattle.device.specs.Promise.{FinishPromise}

@@ -1,5 +1,5 @@
 -- What finishing an access leaves alone, and what it makes: for every state, record and device value.
-use mathlib.Core.Path.{◌≡◌, refl, sym, ap, ◌∙◌}
+use mathlib.Core.Path.{◌≡◌, ap, ◌∙◌}
 use mathlib.Core.Bool.{Bool, true, false, cond}
 use mathlib.Core.List.{[], ◌∷◌}
 use Prim.Native.Nat.{ℕ, ◌<◌}
@@ -12,8 +12,6 @@ use Rattle.record.specs.declared.kinds.Record.{Record}
 use Rattle.status.specs.Sound.{sound}
 use Rattle.status.proofs.Advance.{sound_advanced}
 use Rattle.exception.specs.declared.state.Guest.{Guest}
-use Rattle.exception.specs.declared.state.FaultRegisters.{FaultRegisters}
-use Rattle.exception.specs.declared.state.Saved.{Saved}
 use Rattle.step.specs.Step.{stepped}
 use Rattle.step.specs.Over.{had}
 use Rattle.step.proofs.Frame.{Kept, same, Stepped, steps}

@@ -2,11 +2,10 @@
 -- of its caller.
 use mathlib.Core.Path.{◌≡◌, refl, sym, ap, ◌∙◌}
 use mathlib.Core.Bool.{Bool, true, false, cond, not, ◌&&◌, ◌||◌, true≢false}
-use Prim.Native.Nat.{ℕ, ◌^◌, ◌<◌}
+use Prim.Native.Nat.{ℕ, ◌<◌}
 use native.Mathlib.Omega.{arith}
-use lib.Dec.{T, eqb, ltb, ltb→lt}
+use lib.Dec.{eqb, ltb, ltb→lt}
 use borrow.Author.Tests.{ltb-true, eqb-false}
-use Rattle.bits.specs.Layout.{fitting}
 use Rattle.bits.proofs.Arms.{absurd_answer}
 use Rattle.bits.proofs.Booleans.{and_left, and_right, both_left, both_right}
 use Rattle.iss.specs.Rule.{abort_rule, maintenance_rule}
@@ -15,7 +14,6 @@ use Rattle.record.specs.declared.kinds.DataAbort.{DataAbort}
 use Rattle.record.specs.declared.origin.Origin.{Origin}
 use Rattle.record.specs.declared.kinds.Record.{Record}
 use Rattle.record.specs.declared.kinds.Sort.{Sort}
-use Rattle.layout.specs.Fields.{fields_of}
 use Rattle.record.specs.Sort.{sort_of}
 use Rattle.record.proofs.Sorts.{data_abort_sort}
 use Rattle.rule.specs.Has.{has}
@@ -23,7 +21,6 @@ use Rattle.step.specs.Over.{had}
 use Rattle.layout_rule.specs.Rule.{no_syndrome_rule, valid_syndrome_rule, syndrome_rule, extension_from, data_rule}
 use Rattle.rule.proofs.Having.{has_fits, has_layout}
 use Rattle.step.proofs.Having.{had_some}
-use Rattle.device.specs.declared.access.Described.{Described}
 use Rattle.device.specs.declared.access.Described.TheVariants.{Access, Nothing}
 use Rattle.device.specs.Finish.{described_by, described_of}
 
