@@ -3,7 +3,7 @@ use mathlib.Core.Path.{◌≡◌, refl, sym, ◌∙◌}
 use mathlib.Core.Bool.{Bool, true, false, cond}
 use mathlib.Core.Logic.{◌↔◌}
 use Prim.Native.Nat.{ℕ, ◌+◌}
-use Rattle.bits.specs.Decide.{decide, FirstFails}
+use Rattle.bits.specs.Decide.{FirstFails}
 use Rattle.bits.specs.Field.{bit_of}
 use Rattle.bits.proofs.Deciding.{decided_exactly}
 use Rattle.fault.specs.Fault.{status_word, on_code, write_bit, domain_in, column, asynchronous_row, code_in, asynchronous_dfsr, status_of, dfsr_of}
