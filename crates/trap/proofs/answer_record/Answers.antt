@@ -1,6 +1,5 @@
 -- `trap::answer_record` meets its contract: the tests that led to each answer are those of `answer_record`, in its order.
 -- Assumes nothing.
-use borrow.Author.Rules.{rules}
 use mathlib.Core.Path.{◌≡◌, refl, ◌∙◌, sym, ap, ap₂}
 use mathlib.Core.Bool.{Bool, true, false, not, ◌&&◌, ◌||◌}
 use mathlib.Core.List.{[], ◌∷◌}
@@ -19,8 +18,7 @@ use Rattle.trap.specs.Trap.{trap_from, trap_of}
 use Rattle.trap.specs.Answer.{hpfar_right, far_right, answer_record}
 use Rattle.trap_refusal.specs.declared.TrapRefusal.{TrapRefusal}
 use Rattle.trap.specs.declared.Answer.{Answer}
-use Rattle.trap.proofs.answer_record.Statement.{statement}
-use Rattle.trap.proofs.answer_record.Tie as tie
+use Rattle.trap.proofs.answer_record.Goals as goal
 
 -- a register counts and is wrong, or else it is right where it counts
 deny : (counts right : Bool) {wrong : Bool} → (counts && not right) ≡ wrong → (not counts || right) ≡ not wrong
@@ -50,66 +48,28 @@ by_tests o e r far hpfar h f =
     sym (ap₂ (λ (x y : Bool). decide (Decide.needs x (Answer.Refused TrapRefusal.Hpfar) ∷ Decide.needs y (Answer.Refused TrapRefusal.Far)
     ∷ []) (Answer.Shown (trap_of r far hpfar))) h f)
 
-addresses-requires : tie.Need-addresses-requires
-addresses-requires c κs = search rules
+pub returns-then-hpfar_counts-hpfar_rule : goal.returns-then-hpfar_counts-hpfar_rule
+returns-then-hpfar_counts-hpfar_rule c =
+    let a = c.args in
+    by_tests a.origin a.edition a.r a.far a.hpfar
+    (hpfar-test a.edition a.r a.hpfar c.addresses-known.ensures c.hpfar_counts.ensures
+    c.hpfar_rule.ensures c.if-hpfar_counts-hpfar_rule.true) refl
 
-hpfar-counts-requires : tie.Need-hpfar-counts-requires
-hpfar-counts-requires c κs = search rules
+pub returns-then-far_counts-far_rule : goal.returns-then-far_counts-far_rule
+returns-then-far_counts-far_rule c =
+    let a = c.args in
+    by_tests a.origin a.edition a.r a.far a.hpfar
+    (hpfar-test a.edition a.r a.hpfar c.addresses-known.ensures c.hpfar_counts.ensures
+    c.hpfar_rule.ensures c.if-hpfar_counts-hpfar_rule.false)
+    (far-test a.origin a.r a.far c.addresses-known.ensures c.far_counts.ensures c.far_rule.ensures
+    c.if-far_counts-far_rule.true)
 
-hpfar-rule-requires : tie.Need-hpfar-rule-requires
-hpfar-rule-requires c κs = search rules
-
-returns : tie.Need-returns
+pub returns : goal.returns
 returns c =
-    let at = c.before.before.before in
-    let a = at.before.args in
-    by_tests a.origin a.edition a.r a.far a.hpfar
-    (hpfar-test a.edition a.r a.hpfar at.addresses.ensures c.before.before.hpfar-counts.ensures
-    c.before.hpfar-rule.ensures c.if1.true) refl
-
-far-counts-requires : tie.Need-far-counts-requires
-far-counts-requires c κs = search rules
-
-far-rule-requires : tie.Need-far-rule-requires
-far-rule-requires c κs = search rules
-
-returns-2 : tie.Need-returns-2
-returns-2 c =
-    let h = c.before.before.before in
-    let at = h.before.before.before in
-    let a = at.before.args in
-    by_tests a.origin a.edition a.r a.far a.hpfar
-    (hpfar-test a.edition a.r a.hpfar at.addresses.ensures h.before.before.hpfar-counts.ensures
-    h.before.hpfar-rule.ensures h.if1.false)
-    (far-test a.origin a.r a.far at.addresses.ensures c.before.before.far-counts.ensures c.before.far-rule.ensures
-    c.if2.true)
-
-trap-from-requires : tie.Need-trap-from-requires
-trap-from-requires c κs = search rules
-
-returns-3 : tie.Need-returns-3
-returns-3 c =
-    let f = c.before in
-    let h = f.before.before.before in
-    let at = h.before.before.before in
-    let a = at.before.args in
-    ap Answer.Shown (c.trap-from.ensures ∙ ap (λ (k : Addresses). trap_from k a.r a.far a.hpfar) at.addresses.ensures)
+    let a = c.args in
+    ap Answer.Shown (c.trap_from.ensures ∙ ap (λ (k : Addresses). trap_from k a.r a.far a.hpfar) c.addresses-known.ensures)
     ∙ by_tests a.origin a.edition a.r a.far a.hpfar
-    (hpfar-test a.edition a.r a.hpfar at.addresses.ensures h.before.before.hpfar-counts.ensures
-    h.before.hpfar-rule.ensures h.if1.false)
-    (far-test a.origin a.r a.far at.addresses.ensures f.before.before.far-counts.ensures f.before.far-rule.ensures
-    f.if2.false)
-
-pub answer-record-spec : {M : Type 1} → statement M
-answer-record-spec =
-    tie.close
-    (tie.spec
-    addresses-requires
-    hpfar-counts-requires
-    hpfar-rule-requires
-    returns
-    far-counts-requires
-    far-rule-requires
-    returns-2
-    trap-from-requires
-    returns-3)
+    (hpfar-test a.edition a.r a.hpfar c.addresses-known.ensures c.hpfar_counts.ensures
+    c.hpfar_rule.ensures c.if-hpfar_counts-hpfar_rule.false)
+    (far-test a.origin a.r a.far c.addresses-known.ensures c.far_counts.ensures c.far_rule.ensures
+    c.if-far_counts-far_rule.false)
