@@ -1,11 +1,11 @@
 -- The change exactly: when a long record comes, and which; and each refusal.
 -- Assumes nothing.
 use mathlib.Core.Path.{◌≡◌, refl, ◌∙◌, sym, ap, subst}
-use mathlib.Core.Bool.{Bool, true, false, not, true≢false}
+use mathlib.Core.Bool.{Bool, true, false, true≢false}
 use mathlib.Core.Logic.{◌↔◌, ◌⊎◌, inl, inr, ⊎_elim}
 use Prim.Native.Nat.{ℕ}
 use lib.Dec.{eqb}
-use borrow.Author.Tests.{eqb-true, eqb-false, ne_eqb}
+use borrow.Author.Tests.{eqb-false, ne_eqb}
 use Rattle.bits.specs.Decide.{FailsWith}
 use Rattle.bits.proofs.Arms.{absurd_answer}
 use Rattle.promise.proofs.Promises.{fails_exactly, number_is}

@@ -1,15 +1,10 @@
 -- `widen::mcr` meets its contract: the register is mapped, and every other field stays.
 -- Assumes nothing.
-use borrow.Author.Rules.{rules}
-use Rattle.widen.proofs.mcr.Statement.{statement}
-use Rattle.widen.proofs.mcr.Tie as tie
+use Rattle.widen.proofs.mcr.Goals as goal
 
-mapped-requires : tie.Need-mapped-requires
-mapped-requires c κs = search rules
-
-returns : tie.Need-returns
+pub returns : goal.returns
 returns c =
-    let x = c.before.args.x in
+    let x = c.args.x in
     λ i. record {
       class = x.class;
       il = x.il;
@@ -22,6 +17,3 @@ returns c =
       crm = x.crm;
       direction = x.direction;
     }
-
-pub mcr-spec : {M : Type 1} → statement M
-mcr-spec = tie.close (tie.spec mapped-requires returns)
