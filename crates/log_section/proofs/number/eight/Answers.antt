@@ -1,4 +1,3 @@
-
 use mathlib.Core.Path.{sym}
 use Rattle.log_section.proofs.Numbers.{number_eight}
 use Rattle.log_section.proofs.number.eight.Goals as goal

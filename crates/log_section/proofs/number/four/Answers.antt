@@ -1,4 +1,3 @@
-
 use mathlib.Core.Path.{◌∙◌, sym}
 use Rattle.log_section.proofs.Numbers.{number_four}
 use Rattle.log_section.proofs.number.four.Goals as goal
