@@ -4,10 +4,9 @@ use mathlib.Core.Path.{◌≡◌, refl, sym}
 use mathlib.Core.Bool.{Bool, true, false, true≢false}
 use mathlib.Core.List.{List, [], ◌∷◌}
 use Prim.Native.Nat.{ℕ}
-use lib.Dec.{T}
 use lib.ListN.{length}
 use Rattle.bits.specs.Among.{among}
-use Rattle.bits.proofs.Among.{all, among_all}
+use Rattle.bits.proofs.Among.{among_all}
 use Rattle.layout.specs.Fields.{fields_of}
 use Rattle.names.specs.Name.{meaning_of}
 use Rattle.names.specs.Class.{classes}

@@ -1,11 +1,8 @@
 -- The rows of each kind of record, over a word that holds its fields, are its layout's fields under their names.
 -- Assumes nothing.
 use mathlib.Core.Path.{◌≡◌, refl}
-use mathlib.Core.Bool.{Bool, true, not, cond, ◌&&◌}
-use mathlib.Core.List.{List, [], ◌∷◌}
+use mathlib.Core.Bool.{true}
 use Prim.Native.Nat.{ℕ}
-use lib.ListN.{get_or}
-use Rattle.bits.specs.Field.{field_of, bit_of}
 use Rattle.bits.proofs.Among.{among_each}
 use Rattle.bits.proofs.Fields.{AllBack, flag_back}
 use Rattle.names.specs.Table.{labels, sources, label_at, values_at}
