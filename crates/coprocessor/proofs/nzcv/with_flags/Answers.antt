@@ -3,13 +3,9 @@ use native.Mathlib.Omega.{arith}
 use lib.Bits.{and_high}
 use Rattle.status.proofs.Masks.{or_next}
 use Rattle.coprocessor.specs.Flags.{with_flags}
-use Rattle.coprocessor.proofs.nzcv.with_flags.Statement.{statement}
-use Rattle.coprocessor.proofs.nzcv.with_flags.Tie as tie
+use Rattle.coprocessor.proofs.nzcv.with_flags.Goals as goal
 
-returns : tie.Need-returns
+pub returns : goal.returns
 unfolding with_flags
 returns c =
     or_next 28 (and_high c.args.value 4 28) (and_high c.args.status 28 0) (omega arith) (omega arith)
-
-pub with-flags-spec : {M : Type 1} → statement M
-with-flags-spec = tie.close (tie.spec returns)
