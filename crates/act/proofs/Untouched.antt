@@ -1,6 +1,5 @@
 -- Demand 1, of every action: A REFUSAL GIVES BACK THE VERY STATE.
 use mathlib.Core.Path.{◌≡◌, ap, ◌∙◌}
-use Prim.Native.Nat.{ℕ}
 use Rattle.exception.specs.declared.state.Guest.{Guest}
 use Rattle.guest.specs.declared.injector.Injected.{Injected}
 use Rattle.guest.specs.Answer as guest
