@@ -4,7 +4,6 @@ use mathlib.Core.Path.{◌≡◌}
 use mathlib.Core.Bool.{Bool, true, false, cond}
 use Prim.Native.Nat.{ℕ, ◌^◌}
 use native.Mathlib.Nat.{mod-lt}
-use native.Mathlib.Omega.{arith}
 use borrow.Author.Tests.{lt-ltb}
 use lib.Dec.{T, eqb, ltb}
 use lib.Pow.{pow_pos}
@@ -13,7 +12,7 @@ use Rattle.bits.specs.Field.{width_of, field_of}
 use Rattle.bits.specs.Layout.{fitting}
 use Rattle.layout.specs.Fields.{fields_of}
 use Rattle.record.specs.Class.{mcr_classes, mcrr_classes, call_classes, debug_classes}
-use Rattle.record.specs.Split.{plain_at, wfx_at, mcr_at, mcrr_at, ldc_at, simd_at, call_at, smc_at, instruction_abort_at, data_abort_at, debug_at}
+use Rattle.record.specs.Split.{wfx_at, mcr_at, mcrr_at, ldc_at, simd_at, call_at, smc_at, instruction_abort_at, data_abort_at, debug_at}
 use Rattle.record.specs.Split.{step_at, watchpoint_at, serror_at, system_at, record_of, record_at}
 use Rattle.record.specs.declared.kinds.Record.{Record}
 

@@ -23,7 +23,6 @@ use Rattle.layout.proofs.RoundTrip.{fields_ordered}
 use Rattle.record.specs.Split.{record_of, record_at}
 use Rattle.record.specs.declared.kinds.DataAbort.{DataAbort}
 use Rattle.record.specs.declared.kinds.Record.{Record}
-use Rattle.record.specs.declared.origin.Origin.{Origin}
 use Rattle.layout_rule.specs.Rule.{no_syndrome_rule, aarch32_access, valid_syndrome_rule, syndrome_rule, data_rule, layout_rule}
 use Rattle.fault_code.specs.Code.{everywhere, with_lpa2, without_ras, data_only_code, instruction_code, data_code, set_rule, isv_rule}
 use Rattle.rule.specs.Has.{edition_rule, lawful, has}

@@ -1,0 +1,14 @@
+use Rattle.reason.proofs.aborts.access.Goals as goal
+
+pub returns : goal.returns
+returns c =
+    rw (
+      c.no_syndrome.ensures,
+      c.unless-register.ensures,
+      c.aarch32_access.ensures,
+      c.unless-own.ensures,
+      c.unless-extension.ensures,
+      c.extension_rule.ensures,
+      c.unless-maintenance.ensures,
+      c.maintenance_rule.ensures,
+    ) at c.unless.ensures
