@@ -1,7 +1,7 @@
 -- WHAT IS SAID OF A WHOLE TRAP in an edition, from AArch32: what is said of its syndrome, and then the addresses that are known, with the
 -- registers that they are from, and of the others why they are not; or the register that refuses it, and the lines of its syndrome's record,
 -- which was taken.
-use Rattle.std.specs.Prelude.{ℕ, cond, List, [], ◌++◌}
+use Rattle.std.specs.Prelude.{ℕ, cond, List, ◌++◌}
 use Rattle.registers.specs.declared.Far.{Far}
 use Rattle.registers.specs.declared.Hpfar.{Hpfar}
 use Rattle.address.specs.declared.IntermediateAddress.{IntermediateAddress}
