@@ -14,7 +14,7 @@ pub fn write_raw<'a, 'b>(
     injections: &'a [u16],
     out: &'b mut [u8],
 ) -> Written
-    ensures { Writing record { editions = editions.entry.now; syndromes = syndromes.now; fars = fars.now; hpfars = hpfars.now; injections = injections.now } out.old out.new result }
+    ensures { Writing record { editions = editions.now; syndromes = syndromes.now; fars = fars.now; hpfars = hpfars.now; injections = injections.now } out.old out.new result }
 {
     log_writer::write(
         editions,
