@@ -4,7 +4,6 @@ use mathlib.Core.Path.{◌≡◌, sym, ap, ◌∙◌}
 use mathlib.Core.Bool.{true, true≢false}
 use Prim.Native.Nat.{ℕ}
 use borrow.Author.Tests.{eqb-true, ltb-true, not-false}
-use lib.Dec.{eqb}
 use Rattle.bits.proofs.Among.{among_all}
 use Rattle.edition.specs.Mask.{mask_below}
 use Rattle.edition.specs.declared.Refusal.TheVariants.{NoEdition}
