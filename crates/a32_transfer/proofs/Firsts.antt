@@ -1,6 +1,6 @@
 -- What a rule gives at 0, 1 and on, in an array: one more in its place.
 -- Assumes nothing.
-use Rattle.std.proofs.Common.{◌≡◌, ℕ, zero, suc, ◌+◌, List, [], ◌∷◌, length, set, sym, refl, ap, ◌∙◌, ap₂, add-one}
+use Rattle.std.proofs.Common.{◌≡◌, ℕ, zero, suc, ◌+◌, List, length, set, sym, refl, ap, ◌∙◌, ap₂, add-one}
 use Rattle.a32_access.specs.Transferred.{padded}
 use Rattle.a32_access.proofs.Lists.{padded_more, length_one_more}
 use Rattle.a32_transfer.specs.Giving.{firsts}

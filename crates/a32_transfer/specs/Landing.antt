@@ -11,7 +11,6 @@ use Rattle.a32_access.specs.Place.{back_of}
 use Rattle.a32_access.specs.Value.{value_of}
 use Rattle.a32_transfer.specs.declared.shape.Shape.{Shape}
 use Rattle.a32_transfer.specs.declared.landing.Landing.{Landing}
-use Rattle.a32_transfer.specs.declared.landing.Next.{Next}
 use Rattle.a32_transfer.specs.declared.landing.Next.TheVariants.{After, Branch}
 
 -- the registers with another value in a register of the mode, where the mode's mapping says (status, specs/Register.antt)
