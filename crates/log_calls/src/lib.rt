@@ -111,7 +111,7 @@ pub fn knucklepin_log_write_raw<'a, 'b>(
     buffer: &'b mut [u8],
     length: &'b mut u64,
 ) -> u32
-    ensures { WrittenLog record { editions = editions.entry.now; syndromes = syndromes.now; fars = fars.now; hpfars = hpfars.now; injections = injections.now } buffer.old result buffer.new length.new }
+    ensures { WrittenLog record { editions = editions.now; syndromes = syndromes.now; fars = fars.now; hpfars = hpfars.now; injections = injections.now } buffer.old result buffer.new length.new }
 {
     let written = log_rewrite::write_raw(editions, syndromes, fars, hpfars, injections, buffer);
     *length = log_writer::length_in(written) as u64;

@@ -1,17 +1,14 @@
 -- `log_calls::knucklepin_log_write_raw` meets its contract: numbers and buffer are those of the writer.
 -- Assumes nothing.
-use borrow.Author.Rules.{rules}
 use mathlib.Core.Path.{◌≡◌, ap, ◌∙◌}
 use mathlib.Core.List.{List}
 use Prim.Native.Nat.{ℕ}
-use lib.ListN.{length}
 use Rattle.log_section.specs.Log.{log_of}
 use Rattle.log_writer.specs.Lists.{Lists, entries_from}
 use Rattle.log_writer.specs.Write.{number_of, length_in, buffer_after, Writing}
 use Rattle.log_writer.specs.declared.answer.Written.{Written}
 use Rattle.log_calls.specs.Calls.{WrittenLog}
-use Rattle.log_calls.proofs.knucklepin_log_write_raw.Statement.{statement}
-use Rattle.log_calls.proofs.knucklepin_log_write_raw.Tie as tie
+use Rattle.log_calls.proofs.knucklepin_log_write_raw.Goals as goal
 
 told : (l : Lists) (before after : List ℕ) {a : Written} {n size : ℕ} → Writing l before after a → n ≡ number_of a → size ≡ length_in a
     → WrittenLog l before n after size
@@ -22,21 +19,5 @@ told l before after p number size =
       buffer = p.buffer ∙ ap (λ (x : Written). buffer_after x (log_of (entries_from l)) before) p.answer;
     }
 
-write-raw-requires : tie.Need-write-raw-requires
-write-raw-requires c κs = search rules
-
-length-in-requires : tie.Need-length-in-requires
-length-in-requires c κs = search rules
-
-number-requires : tie.Need-number-requires
-number-requires c κs = search rules
-
-same_length : tie.Need-same-length
-same_length c = search rules
-
-returns : tie.Need-returns
-returns c = told _ _ _ c.before.before.before.before.write-raw.ensures c.number.ensures c.before.length-in.ensures
-
-pub knucklepin-log-write-raw-spec : {M : Type 1} → statement M
-knucklepin-log-write-raw-spec =
-    tie.close (tie.spec write-raw-requires length-in-requires number-requires same_length returns)
+pub returns : goal.returns
+returns c = told _ _ _ c.write_raw-written.ensures c.number.ensures c.length_in.ensures

@@ -1,0 +1,13 @@
+-- `log_calls::knucklepin_log_look` meets its contract: each number is that of the look.
+-- Assumes nothing.
+use mathlib.Core.Path.{ap, ◌∙◌}
+use mathlib.Core.List.{[], ◌∷◌}
+use Rattle.log_calls.specs.Calls.{found_in}
+use Rattle.log_calls.proofs.knucklepin_log_look.Goals as goal
+
+pub returns : goal.returns
+returns c =
+    let entry = c in
+    (λ i. entry.whole_in.ensures i ∷ entry.count_in.ensures i ∷ entry.entry_in.ensures i
+    ∷ c.first_in.ensures i ∷ c.second_in.ensures i ∷ [])
+    ∙ ap found_in entry.look_in-look.ensures
