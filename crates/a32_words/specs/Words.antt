@@ -1,7 +1,6 @@
 -- A32 loads and stores as words: the number of a form, and what an access does (02, C-18).
 use Rattle.std.specs.Prelude.{ℕ, ◌+◌, cond, List, [], ◌∷◌, ◌++◌}
 use Rattle.record_words.specs.Words.{flag}
-use Rattle.signed.specs.declared.Signed.{Signed}
 use Rattle.signed.specs.Signed.{signed, sum_of}
 use Rattle.a32_fields.specs.declared.kinds.Fields.{Fields}
 use Rattle.a32_fields.specs.declared.kinds.Immediate.{Immediate}
