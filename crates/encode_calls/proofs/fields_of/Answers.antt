@@ -1,6 +1,5 @@
 -- `encode_calls::fields_of` meets its contract: the tests that led to each form are those of `fields_of`.
 -- Assumes nothing.
-use borrow.Author.Rules.{rules}
 use mathlib.Core.Path.{◌≡◌, ap, ◌∙◌}
 use mathlib.Core.Bool.{true, false, ◌&&◌, ◌||◌}
 use mathlib.Core.List.{List}
@@ -12,8 +11,7 @@ use Rattle.a32_fields.specs.declared.kinds.Fields.{Fields}
 use Rattle.a32_fields.specs.declared.kinds.Transfer.{Transfer}
 use Rattle.encode_calls.specs.declared.Asked.{Asked}
 use Rattle.encode_calls.specs.Calls.{transfer_of, immediate_of, register_of, literal_of, multiple_of, fields_of}
-use Rattle.encode_calls.proofs.fields_of.Statement.{statement}
-use Rattle.encode_calls.proofs.fields_of.Tie as tie
+use Rattle.encode_calls.proofs.fields_of.Goals as goal
 
 -- the ways through the tests
 module _ (ws : List ℕ) where
@@ -44,44 +42,37 @@ module _ (ws : List ℕ) where
   unfolding fields_of
   at_none h r l m = simp (le-ltb form 10 h, r, l, m)
 
-returns : tie.Need-returns
-returns c =
-    let ws = c.before.before.before.args.t1 in
+pub returns-then-form-lt10 : goal.returns-then-form-lt10
+returns-then-form-lt10 c =
+    let ws = c.args.words in
     ap (λ r. Asked.Form (Fields.Immediate r))
-    (c.immediate-of.ensures ∙ ap (λ (t : Transfer). immediate_of t ws) c.before.transfer-of.ensures)
-    ∙ at-immediate ws c.before.before.if1.true
+    (c.immediate_of.ensures ∙ ap (λ (t : Transfer). immediate_of t ws) c.transfer_of.ensures)
+    ∙ at-immediate ws c.if-form-lt10.true
 
-returns-2 : tie.Need-returns-2
-returns-2 c =
-    let test = c.before.before in
-    let ws = test.before.before.args.t1 in
+pub returns-then-form : goal.returns-then-form
+returns-then-form c =
+    let test = c in
+    let ws = test.args.words in
     ap (λ r. Asked.Form (Fields.Register r))
-    (c.register_of.ensures ∙ ap (λ (t : Transfer). register_of t ws) c.before.transfer-of2.ensures)
-    ∙ at_register ws test.before.if1.false test.if2.true
+    (c.register_of.ensures ∙ ap (λ (t : Transfer). register_of t ws) c.transfer_of-then-form.ensures)
+    ∙ at_register ws test.if-form-lt10.false test.if-form.true
 
-returns-3 : tie.Need-returns-3
-returns-3 c =
-    let test = c.before.before in
-    let ws = test.before.before.before.args.t1 in
+pub returns-then-form-2 : goal.returns-then-form-2
+returns-then-form-2 c =
+    let test = c in
+    let ws = test.args.words in
     ap (λ r. Asked.Form (Fields.Literal r))
-    (c.literal-of.ensures ∙ ap (λ (t : Transfer). literal_of t ws) c.before.transfer-of3.ensures)
-    ∙ at_literal ws test.before.before.if1.false test.before.if2.false test.if3.true
+    (c.literal_of.ensures ∙ ap (λ (t : Transfer). literal_of t ws) c.transfer_of-then-form-2.ensures)
+    ∙ at_literal ws test.if-form-lt10.false test.if-form.false test.if-form-2.true
 
-returns-4 : tie.Need-returns-4
-returns-4 c =
-    let test = c.before in
-    let ws = test.before.before.before.before.args.t1 in
-    ap (λ r. Asked.Form (Fields.Multiple r)) c.multiple-of.ensures
-    ∙ at-list ws test.before.before.before.if1.false test.before.before.if2.false test.before.if3.false test.if4.true
+pub returns-then-form-3 : goal.returns-then-form-3
+returns-then-form-3 c =
+    let test = c in
+    let ws = test.args.words in
+    ap (λ r. Asked.Form (Fields.Multiple r)) c.multiple_of.ensures
+    ∙ at-list ws test.if-form-lt10.false test.if-form.false test.if-form-2.false test.if-form-3.true
 
-returns-5 : tie.Need-returns-5
-returns-5 c =
-    let ws = c.before.before.before.before.args.t1 in
-    at_none ws c.before.before.before.if1.false c.before.before.if2.false c.before.if3.false c.if4.false
-
-pub fields-of-spec : {M : Type 1} → statement M
-fields-of-spec =
-    tie.close
-    (tie.spec (λ c. search rules) (λ c κs. search rules) (λ c κs. search rules) returns (λ c κs. search rules)
-    (λ c κs. search rules) returns-2 (λ c κs. search rules) (λ c κs. search rules) returns-3 (λ c κs. search rules)
-    returns-4 returns-5)
+pub returns : goal.returns
+returns c =
+    let ws = c.args.words in
+    at_none ws c.if-form-lt10.false c.if-form.false c.if-form-2.false c.if-form-3.false
