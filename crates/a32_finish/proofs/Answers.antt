@@ -19,7 +19,7 @@ use Rattle.a32.specs.Promise.{answer_number, describe_numbers, described_answer}
 use Rattle.a32.proofs.Describing.{answered}
 use Rattle.a32_finish.specs.declared.answer.Finished.{Finished}
 use Rattle.a32_finish.specs.Answer.{finish_number}
-use Rattle.a32_finish.specs.Finish.{to_load, to_store, performed, refusing, finished_by, finished}
+use Rattle.a32_finish.specs.Finish.{to_load, to_store, performed, finished_by, finished}
 use Rattle.a32_finish.specs.Promise.{AccessPromise}
 
 -- what was described is what is finished

@@ -9,7 +9,6 @@ use native.Mathlib.Omega.{arith}
 use lib.Dec.{eqb}
 use lib.ListN.{get_or, length, replicate}
 use borrow.Author.Tests.{le-leb, ne_eqb}
-use Rattle.bits.specs.Field.{field_of}
 use Rattle.edition.specs.Mask.{mask_of}
 use Rattle.record.specs.declared.kinds.DataAbort.{DataAbort}
 use Rattle.record.specs.declared.kinds.Record.{Record}

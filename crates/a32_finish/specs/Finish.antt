@@ -18,7 +18,6 @@ use Rattle.a32.specs.declared.instruction.Answer.TheVariants as described
 use Rattle.a32.specs.Promise.{described_answer}
 use Rattle.a32_finish.specs.declared.answer.Answer.{Answer}
 use Rattle.a32_finish.specs.declared.answer.Answer.TheVariants.{Loaded, Stored, UnsoundStatus, T32State, NoForm}
-use Rattle.a32_finish.specs.declared.answer.Outcome.{Outcome}
 use Rattle.a32_finish.specs.declared.answer.Finished.{Finished}
 use Rattle.a32_finish.specs.Branch.{branched}
 

@@ -3,7 +3,6 @@ use mathlib.Core.Path.{◌≡◌, sym, ap, ap₂, ◌∙◌}
 use mathlib.Core.Bool.{Bool, cond}
 use mathlib.Core.List.{List, []}
 use Prim.Native.Nat.{ℕ, min}
-use borrow.Author.Rules.{rules}
 use Rattle.exception.specs.declared.state.Guest.{Guest}
 use Rattle.data.specs.Data.{big_endian}
 use Rattle.a32_access.specs.Transferred.{padded}
@@ -15,8 +14,7 @@ use Rattle.a32_finish.specs.declared.answer.Answer.{Answer}
 use Rattle.a32_finish.specs.declared.answer.Answer.TheVariants.{Loaded, Stored}
 use Rattle.a32_finish.specs.declared.answer.Finished.{Finished}
 use Rattle.a32_finish.specs.Finish.{mode_of, loaded, stored, addresses_of, given_in, to_load, to_store, performed}
-use Rattle.a32_finish.proofs.perform.performed.Statement.{statement}
-use Rattle.a32_finish.proofs.perform.performed.Tie as tie
+use Rattle.a32_finish.proofs.perform.performed.Goals as goal
 
 abbrev made : Answer → List ℕ → List ℕ → Guest → Finished
 made answer addresses values s = record { outcome = record { answer = answer; addresses = addresses; values = values }; state = s }
@@ -46,56 +44,18 @@ module _ (s : Guest) (a : Access) (numbers values : List ℕ) where
       ap₂ (λ (l : List ℕ) (g : Guest). made (Stored a) l out g) p e
       ∙ ap (λ (l : List ℕ). made (Stored a) (addresses_of a) l (stored s a)) o
 
-shape-of-requires : tie.Need-shape-of-requires
-shape-of-requires c κs = search rules
+pub returns-then-shape : goal.returns-then-shape
+returns-then-shape c =
+    let a = c.args in
+    loads a.state a.access a.numbers a.values c.shape_of-shape.result c.addresses-places.ensures
+    c.loaded-after.ensures
+    ∙ by_shape a.state a.access a.numbers a.values c.shape_of-shape.ensures c.if-shape.true
 
-addresses-requires : tie.Need-addresses-requires
-addresses-requires c κs = search rules
-
-loaded-requires : tie.Need-loaded-requires
-loaded-requires c κs = search rules
-
-mode-of-requires : tie.Need-mode-of-requires
-mode-of-requires c κs = search rules
-
-big-endian-requires : tie.Need-big-endian-requires
-big-endian-requires c κs = search rules
-
-given-requires : tie.Need-given-requires
-given-requires c κs = search rules
-
-stored-requires : tie.Need-stored-requires
-stored-requires c κs = search rules
-
-returns : tie.Need-returns
-returns c =
-    let placed = c.before.before in
-    let a = placed.before.before.args in
-    loads a.state a.access a.numbers a.values placed.before.shape-of.result placed.addresses.ensures
-    c.loaded.ensures
-    ∙ by_shape a.state a.access a.numbers a.values placed.before.shape-of.ensures c.before.if1.true
-
-returns-2 : tie.Need-returns-2
-returns-2 c =
-    let tested = c.before.before.before.before.before in
-    let placed = tested.before in
-    let a = placed.before.before.args in
-    stores a.state a.access a.numbers a.values placed.before.shape-of.result placed.addresses.ensures
-    (gives a.state a.access a.numbers a.values placed.before.shape-of.result c.before.before.before.mode_of_lem.ensures
-    c.before.before.big_endian.ensures c.before.given.ensures)
-    c.stored.ensures
-    ∙ by_shape a.state a.access a.numbers a.values placed.before.shape-of.ensures tested.if1.false
-
-pub performed-spec : {M : Type 1} → statement M
-performed-spec =
-    tie.close
-    (tie.spec
-    shape-of-requires
-    addresses-requires
-    loaded-requires
-    mode-of-requires
-    big-endian-requires
-    given-requires
-    stored-requires
-    returns
-    returns-2)
+pub returns-else-shape : goal.returns-else-shape
+returns-else-shape c =
+    let a = c.args in
+    stores a.state a.access a.numbers a.values c.shape_of-shape.result c.addresses-places.ensures
+    (gives a.state a.access a.numbers a.values c.shape_of-shape.result c.mode_of.ensures
+    c.big_endian.ensures c.given-out.ensures)
+    c.stored-after.ensures
+    ∙ by_shape a.state a.access a.numbers a.values c.shape_of-shape.ensures c.if-shape.false

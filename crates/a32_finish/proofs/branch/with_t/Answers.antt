@@ -7,8 +7,7 @@ use lib.Bits.{bit_and, bit_or, and_high}
 use Rattle.bits.specs.Field.{digit}
 use Rattle.status.proofs.Masks.{or_next}
 use Rattle.a32_finish.specs.Branch.{with_t}
-use Rattle.a32_finish.proofs.branch.with_t.Statement.{statement}
-use Rattle.a32_finish.proofs.branch.with_t.Tie as tie
+use Rattle.a32_finish.proofs.branch.with_t.Goals as goal
 
 module _ (w : ℕ) where
   by : {t b : Bool} → t ≡ b → w / 2 ^ 6 % 2 ^ 26 * 2 ^ 6 + digit b * 2 ^ 5 + w / 2 ^ 0 % 2 ^ 5 * 2 ^ 0 ≡ with_t w t
@@ -21,11 +20,8 @@ module _ (w : ℕ) where
   clear : bit_or (bit_and w 0xFFFF_FFC0) (bit_and w 0x1F) ≡ w / 2 ^ 6 % 2 ^ 26 * 2 ^ 6 + 0 * 2 ^ 5 + w / 2 ^ 0 % 2 ^ 5 * 2 ^ 0
   clear = or_next 6 (and_high w 26 6) (and_high w 5 0) (omega arith) (omega arith) ∙ omega arith
 
-returns : tie.Need-returns
-returns c = set c.before.args.status ∙ by c.before.args.status c.if1.true
+pub returns-then-t : goal.returns-then-t
+returns-then-t c = set c.args.status ∙ by c.args.status c.if-t.true
 
-returns-2 : tie.Need-returns-2
-returns-2 c = clear c.before.args.status ∙ by c.before.args.status c.if1.false
-
-pub with-t-spec : {M : Type 1} → statement M
-with-t-spec = tie.close (tie.spec returns returns-2)
+pub returns-else-t : goal.returns-else-t
+returns-else-t c = clear c.args.status ∙ by c.args.status c.if-t.false
