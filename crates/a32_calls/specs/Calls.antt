@@ -2,7 +2,6 @@
 use Rattle.std.specs.Prelude.{ℕ, ◌≡◌, List, [], ◌∷◌}
 use Rattle.record_words.specs.Words.{zeros}
 use Rattle.exception.specs.declared.state.Guest.{Guest}
-use Rattle.a32_access.specs.declared.access.Access.{Access}
 use Rattle.a32.specs.declared.instruction.Answer.{Answer as Described}
 use Rattle.a32.specs.declared.instruction.Answer.TheVariants as described
 use Rattle.a32.specs.Promise.{answer_number, described_answer, registers_in}
