@@ -1,16 +1,15 @@
 -- An answer takes no more than 4096 bytes, and those to a chunk no more than 4096 for each of its bytes.
 -- Assumes nothing.
-use mathlib.Core.Path.{◌≡◌, refl, sym}
+use mathlib.Core.Path.{refl}
 use mathlib.Core.Bool.{Bool, true, false, cond}
 use mathlib.Core.List.{List, [], ◌∷◌, ◌++◌}
-use Prim.Native.Nat.{ℕ, suc, ◌+◌, ◌*◌, ◌≤◌}
+use Prim.Native.Nat.{ℕ, suc, ◌*◌, ◌≤◌}
 use Prim.Native.Char.{code}
 use native.Mathlib.Omega.{arith}
 use lib.Dec.{eqb}
 use lib.ListN.{length, length-append}
 use Rattle.bits.specs.Field.{field_of}
 use Rattle.edition.specs.Judge.{refusal_number}
-use Rattle.edition.specs.declared.Refusal.{Refusal}
 use Rattle.explain_text.proofs.Room.{joined, choice_length, word_said_length, trap_said_length}
 use Rattle.field_text.proofs.Room.{shape_length}
 use Rattle.question.specs.Feed.{started, fed, ended}
@@ -22,9 +21,7 @@ use Rattle.refusal_text.proofs.Room.{refusal_length, why_length}
 use Rattle.short.specs.Reading as Short
 use Rattle.short.specs.declared.answer.Read as ShortRead
 use Rattle.short_reason.specs.Reason as ShortReason
-use Rattle.registers.specs.declared.Hsr.{Hsr}
 use Rattle.short_text.specs.Inner as ShortLines
-use Rattle.short_text.specs.Said.{short_said}
 use Rattle.short_text.proofs.Readings as Readings
 use Rattle.text.specs.Ascii.{ascii}
 use Rattle.explain.specs.Answer.{answer_text}

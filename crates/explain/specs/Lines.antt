@@ -1,5 +1,5 @@
 -- The answers to an input, read in chunks and read whole.
-use Rattle.std.specs.Prelude.{ℕ, Bool, cond, ◌≡◌, List, [], ◌∷◌, ◌++◌, eqb}
+use Rattle.std.specs.Prelude.{ℕ, Bool, cond, ◌≡◌, List, [], eqb}
 use Rattle.question.specs.Feed.{started, fed, ended}
 use Rattle.question.specs.declared.State.{State}
 use Rattle.text.specs.Lines.{state_after, chunk_text}
