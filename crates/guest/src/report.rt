@@ -6,6 +6,9 @@ use crate::injection::{Access, Fetch, Injection};
 use exception::FaultRegisters;
 use fault::{code_in, dfsr_word, ifsr_word, is_code};
 
+// DFSR's domain has four bits.
+const LAST_DOMAIN: u8 = 15;
+
 #[derive(Clone, Copy)]
 pub(crate) enum Report {
     // The fault registers after the injection.
@@ -43,7 +46,7 @@ fn access_report(access: Access, old: FaultRegisters, ttbcr: u32) -> Report
     if !is_code(dfsr) {
         return Report::NoStatus;
     }
-    if access.domain > 15 {
+    if access.domain > LAST_DOMAIN {
         return Report::NoDomain;
     }
     if access.address >= 0x1_0000_0000 {

@@ -20,20 +20,20 @@ returns-then-not-is_code c =
     unwritable (access_writes args.old) (dfsr_in access args.ttbcr) c.dfsr_word-dfsr.ensures (leb access.domain 15) access.address
     (sym c.is_code.ensures ∙ c.if-not-is_code.true)
 
-pub returns-then-access-gt15 : goal.returns-then-access-gt15
-returns-then-access-gt15 c =
+pub returns-then-access-gt-LAST_DOMAIN : goal.returns-then-access-gt-LAST_DOMAIN
+returns-then-access-gt-LAST_DOMAIN c =
     let args = c.args in
     let access = args.access in
     wide_domain_lem (access_writes args.old) (dfsr_in access args.ttbcr) c.dfsr_word-dfsr.ensures (leb access.domain 15)
     access.address
-    (sym c.is_code.ensures ∙ c.if-not-is_code.false) (lt-leb _ 15 c.if-access-gt15.true)
+    (sym c.is_code.ensures ∙ c.if-not-is_code.false) (lt-leb _ 15 c.if-access-gt-LAST_DOMAIN.true)
 
 pub returns-then-access-ge4294967296 : goal.returns-then-access-ge4294967296
 returns-then-access-ge4294967296 c =
     let args = c.args in
     let access = args.access in
     wide (access_writes args.old) (dfsr_in access args.ttbcr) c.dfsr_word-dfsr.ensures (leb access.domain 15) access.address
-    (sym c.is_code.ensures ∙ c.if-not-is_code.false) (le-leb _ 15 c.if-access-gt15.false)
+    (sym c.is_code.ensures ∙ c.if-not-is_code.false) (le-leb _ 15 c.if-access-gt-LAST_DOMAIN.false)
     (le-ltb _ _ c.if-access-ge4294967296.true)
 
 pub returns : goal.returns
@@ -41,5 +41,5 @@ returns c =
     let args = c.args in
     let access = args.access in
     written (access_writes args.old) (dfsr_in access args.ttbcr) c.dfsr_word-dfsr.ensures (leb access.domain 15) access.address
-    (sym c.is_code.ensures ∙ c.if-not-is_code.false) (le-leb _ 15 c.if-access-gt15.false)
+    (sym c.is_code.ensures ∙ c.if-not-is_code.false) (le-leb _ 15 c.if-access-gt-LAST_DOMAIN.false)
     (lt-ltb _ _ c.if-access-ge4294967296.false) c.code_in.ensures
