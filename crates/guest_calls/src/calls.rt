@@ -91,11 +91,14 @@ pub fn knucklepin_inject(
     guest::number(answer)
 }
 
+// The number of a data abort, the last of the injections.
+const LAST_INJECTION: u32 = 4;
+
 // What an injection adds to PC for its link, modulo 2^32.
 pub fn knucklepin_injection_correction(state: &[u32; 48], injection: u32) -> u32
     ensures { result ≡ injection_correction (state_of state.now) injection }
 {
-    if 4 < injection {
+    if LAST_INJECTION < injection {
         return 0;
     }
     let what = injection_of(injection, 0, 0, 0, 0, 0);

@@ -6,9 +6,9 @@ use Rattle.guest.specs.Injection.{correction_of}
 use Rattle.guest_calls.specs.Calls.{as_word, injection_correction}
 use Rattle.guest_calls.proofs.calls.knucklepin_injection_correction.Goals as goal
 
-pub returns-then-injection-gt4 : goal.returns-then-injection-gt4
+pub returns-then-injection-gt-LAST_INJECTION : goal.returns-then-injection-gt-LAST_INJECTION
 unfolding injection_correction
-returns-then-injection-gt4 c = simp (lt-ltb _ _ c.if-injection-gt4.true)
+returns-then-injection-gt-LAST_INJECTION c = simp (lt-ltb _ _ c.if-injection-gt-LAST_INJECTION.true)
 
 pub returns : goal.returns
 unfolding injection_correction
@@ -17,4 +17,4 @@ returns c =
     ∙ ap as_word
     (c.correction.ensures
     ∙ ap₂ correction_of c.state_of.ensures c.injection_of-what.ensures)
-    ∙ simp (le-ltb _ _ c.if-injection-gt4.false)
+    ∙ simp (le-ltb _ _ c.if-injection-gt-LAST_INJECTION.false)
