@@ -22,12 +22,12 @@ use Rattle.exception.specs.declared.state.Guest.{Guest}
 
 -- what reading answers: a record, some record, or a refusal by its number, mask and number of ones
 pub data Answers : Type 0 where
-  record_read_lem : Record → Answers
+  record_read : Record → Answers
   taken : Answers
   refused : ℕ → ℕ → ℕ → Answers
 
 abbrev pub AnswersAs : Read → Answers → Type 0
-AnswersAs read (record_read_lem r) = read ≡ Read.Taken r
+AnswersAs read (record_read r) = read ≡ Read.Taken r
 AnswersAs read taken = (r : Record) × (read ≡ Read.Taken r)
 AnswersAs read (refused number mask count) =
     (f : Refusal) × (read ≡ Read.Refused f) × (refusal_number f ≡ number) × (refusal_mask f ≡ mask) × (refusal_count f ≡ count)
