@@ -17,6 +17,7 @@ pub(crate) enum Asked {
 }
 
 // The transfer of a number below 10.
+#[tactic(auto, unfolding(crate::specs::Calls::transfer_of))]
 fn transfer_of(number: u32) -> Transfer
     ensures { result ≡ transfer_of number }
 {

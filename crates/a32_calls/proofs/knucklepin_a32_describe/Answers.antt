@@ -8,11 +8,10 @@ use Rattle.a32_calls.proofs.knucklepin_a32_describe.Goals as goal
 
 pub returns : goal.returns
 returns c =
-    let call = c in
-    let a = call.args in
-    let same = call.describe-described.ensures.answered.answer ∙ ap (λ (s : Guest). described_answer s a.word) call.state_of.ensures in
+    let a = c.args in
+    let same = c.describe-described.ensures.answered.answer ∙ ap (λ (s : Guest). described_answer s a.word) c.state_of.ensures in
     record {
       answer = c.number.ensures ∙ ap answer_number same;
       access = c.access_told.ensures ∙ ap access_told same;
-      registers = call.describe-described.ensures.registers ∙ ap registers_in same;
+      registers = c.describe-described.ensures.registers ∙ ap registers_in same;
     }

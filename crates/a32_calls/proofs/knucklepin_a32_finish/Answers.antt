@@ -11,12 +11,11 @@ use Rattle.a32_calls.proofs.knucklepin_a32_finish.Goals as goal
 
 pub returns : goal.returns
 returns c =
-    let call = c in
-    let a = call.args in
+    let a = c.args in
     let w = a.state.now in
     let same =
-    call.finish-done.ensures.answer
-    ∙ ap (λ (s : Guest). finished s a.word a.values.now) call.state_of.ensures in
+    c.finish-done.ensures.answer
+    ∙ ap (λ (s : Guest). finished s a.word a.values.now) c.state_of.ensures in
     record {
       lent = record {
         answer = c.number.ensures ∙ ap (λ (x : Finished). finish_number x.outcome.answer) same;

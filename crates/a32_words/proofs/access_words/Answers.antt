@@ -36,6 +36,5 @@ parts a form fields moved added =
 
 pub returns : goal.returns
 returns c =
-    let fields = c in
-    parts fields.args.access fields.form_number-form.ensures fields.fields_after-w.ensures
+    parts c.args.access c.form_number-form.ensures c.fields_after-w.ensures
     (c.shape_words-moved.ensures ∙ ap shape_words c.shape_of.ensures) c.sum-added.ensures

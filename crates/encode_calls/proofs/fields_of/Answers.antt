@@ -51,26 +51,23 @@ returns-then-form-lt10 c =
 
 pub returns-then-form : goal.returns-then-form
 returns-then-form c =
-    let test = c in
-    let ws = test.args.words in
+    let ws = c.args.words in
     ap (λ r. Asked.Form (Fields.Register r))
     (c.register_of.ensures ∙ ap (λ (t : Transfer). register_of t ws) c.transfer_of-then-form.ensures)
-    ∙ at_register ws test.if-form-lt10.false test.if-form.true
+    ∙ at_register ws c.if-form-lt10.false c.if-form.true
 
 pub returns-then-form-2 : goal.returns-then-form-2
 returns-then-form-2 c =
-    let test = c in
-    let ws = test.args.words in
+    let ws = c.args.words in
     ap (λ r. Asked.Form (Fields.Literal r))
     (c.literal_of.ensures ∙ ap (λ (t : Transfer). literal_of t ws) c.transfer_of-then-form-2.ensures)
-    ∙ at_literal ws test.if-form-lt10.false test.if-form.false test.if-form-2.true
+    ∙ at_literal ws c.if-form-lt10.false c.if-form.false c.if-form-2.true
 
 pub returns-then-form-3 : goal.returns-then-form-3
 returns-then-form-3 c =
-    let test = c in
-    let ws = test.args.words in
+    let ws = c.args.words in
     ap (λ r. Asked.Form (Fields.Multiple r)) c.multiple_of.ensures
-    ∙ at-list ws test.if-form-lt10.false test.if-form.false test.if-form-2.false test.if-form-3.true
+    ∙ at-list ws c.if-form-lt10.false c.if-form.false c.if-form-2.false c.if-form-3.true
 
 pub returns : goal.returns
 returns c =

@@ -7,6 +7,5 @@ use Rattle.encode_calls.proofs.knucklepin_a32_encode.Goals as goal
 
 pub returns : goal.returns
 returns c =
-    let call = c in
-    let same = call.encoded-answer.ensures ∙ ap encoded_of call.fields_of.ensures in
+    let same = c.encoded-answer.ensures ∙ ap encoded_of c.fields_of.ensures in
     record { answer = c.number_in.ensures ∙ ap number_encoded same; made = c.word_in.ensures ∙ ap word_in same }

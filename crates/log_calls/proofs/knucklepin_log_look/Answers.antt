@@ -7,7 +7,6 @@ use Rattle.log_calls.proofs.knucklepin_log_look.Goals as goal
 
 pub returns : goal.returns
 returns c =
-    let entry = c in
-    (λ i. entry.whole_in.ensures i ∷ entry.count_in.ensures i ∷ entry.entry_in.ensures i
+    (λ i. c.whole_in.ensures i ∷ c.count_in.ensures i ∷ c.entry_in.ensures i
     ∷ c.first_in.ensures i ∷ c.second_in.ensures i ∷ [])
-    ∙ ap found_in entry.look_in-look.ensures
+    ∙ ap found_in c.look_in-look.ensures

@@ -6,8 +6,7 @@ use Rattle.a32_access.proofs.access.access_in.Goals as goal
 
 pub returns : goal.returns
 returns c =
-    let start = c in
-    let f = start.args.f in
+    let f = c.args.f in
     let size = c.offset_of-size.ensures in
     λ i. record {
       fields = f;

@@ -11,10 +11,9 @@ chosen f size back way = ap (λ (w : Bool). cond w (signed_by (up_of f) size) (P
 
 pub returns-then-back : goal.returns-then-back
 returns-then-back c =
-    let tested = c in
-    let a = tested.args in
+    let a = c.args in
     c.signed_by.ensures ∙ ap (λ (u : Bool). signed_by u a.size) c.up.ensures
-    ∙ chosen a.f a.size tested.back.ensures tested.if-back.true
+    ∙ chosen a.f a.size c.back.ensures c.if-back.true
 
 pub returns-else-back : goal.returns-else-back
 returns-else-back c = let a = c.args in chosen a.f a.size c.back.ensures c.if-back.false

@@ -59,6 +59,5 @@ loop-n-preserved c =
 
 pub returns : goal.returns
 returns c =
-    let at = c in
-    let end : at.loop-n.n ≡ 16 = omega arith in
-    at.loop-n.invariant.2 ∙ ap (λ (k : ℕ). padded 16 (listed_below k at.args.list)) end
+    let end : c.loop-n.n ≡ 16 = omega arith in
+    c.loop-n.invariant.2 ∙ ap (λ (k : ℕ). padded 16 (listed_below k c.args.list)) end

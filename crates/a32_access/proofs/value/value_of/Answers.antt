@@ -25,19 +25,16 @@ returns-then-number-eq15 c =
 
 pub returns-then-at-lt31 : goal.returns-then-at-lt31
 returns-then-at-lt31 c =
-    let at = c in
-    let a = at.args in
-    as-held a.regs a.pc a.mode a.number at.if-number-eq15.false at.held_in.ensures c.in-Register.is
+    let a = c.args in
+    as-held a.regs a.pc a.mode a.number c.if-number-eq15.false c.held_in.ensures c.in-Register.is
 
 pub returns-else-at-lt31 : goal.returns-else-at-lt31
 returns-else-at-lt31 c =
-    let at = c in
-    let a = at.args in
+    let a = c.args in
     sym (get_or-eq_default a.regs 0 (omega arith))
-    ∙ as-held a.regs a.pc a.mode a.number at.if-number-eq15.false at.held_in.ensures c.in-Register.is
+    ∙ as-held a.regs a.pc a.mode a.number c.if-number-eq15.false c.held_in.ensures c.in-Register.is
 
 pub returns-in-Nowhere : goal.returns-in-Nowhere
 returns-in-Nowhere c =
-    let at = c in
-    let a = at.args in
-    as-held a.regs a.pc a.mode a.number at.if-number-eq15.false at.held_in.ensures c.in-Nowhere.is
+    let a = c.args in
+    as-held a.regs a.pc a.mode a.number c.if-number-eq15.false c.held_in.ensures c.in-Nowhere.is

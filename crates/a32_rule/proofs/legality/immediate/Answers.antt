@@ -10,8 +10,7 @@ use Rattle.a32_rule.proofs.legality.immediate.Goals as goal
 
 pub returns : goal.returns
 returns c =
-    let fits = c in
-    let r = fits.args.r in
+    let r = c.args.r in
     ap₂ (λ (f g : Bool). ltb r.cond 15 && ltb r.rn 16 && ltb r.rt 16 && f && ((r.p || not r.w) && g))
-    (fits.immediate_fits.ensures ∙ ap (λ (k : Code). immediate_fits k r.imm) fits.code.ensures) c.immediate_rule.ensures
+    (c.immediate_fits.ensures ∙ ap (λ (k : Code). immediate_fits k r.imm) c.code.ensures) c.immediate_rule.ensures
     ∙ sym (legal_immediate r)

@@ -18,13 +18,11 @@ loop-i-smaller c = omega arith
 
 pub loop-i-preserved : goal.loop-i-preserved
 loop-i-preserved c =
-    let at = c in
-    let a = at.args in
-    (omega arith, omega arith, one_more (address_at a.first) 16 at.loop-i.i at.loop-i.invariant.2 at.loop-i.invariant.1)
+    let a = c.args in
+    (omega arith, omega arith, one_more (address_at a.first) 16 c.loop-i.i c.loop-i.invariant.2 c.loop-i.invariant.1)
 
 pub returns : goal.returns
 returns c =
-    let at = c in
-    let a = at.args in
-    let end : at.loop-i.i ≡ min a.count 16 = omega arith in
-    at.loop-i.invariant.2 ∙ ap (λ (k : ℕ). padded 16 (firsts (address_at a.first) k)) end
+    let a = c.args in
+    let end : c.loop-i.i ≡ min a.count 16 = omega arith in
+    c.loop-i.invariant.2 ∙ ap (λ (k : ℕ). padded 16 (firsts (address_at a.first) k)) end

@@ -22,16 +22,14 @@ loop-i-smaller c = omega arith
 
 pub loop-i-preserved : goal.loop-i-preserved
 loop-i-preserved c =
-    let at = c in
-    let a = at.args in (
+    let a = c.args in (
       omega arith,
-      one_more (given_at a.regs a.pc a.mode a.big a.sas a.numbers) 16 at.loop-i.i at.loop-i.invariant.1
+      one_more (given_at a.regs a.pc a.mode a.big a.sas a.numbers) 16 c.loop-i.i c.loop-i.invariant.1
           (c.transferred.ensures ∙ ap (transferred a.sas a.big) c.value_of.ensures),
     )
 
 pub returns : goal.returns
 returns c =
-    let at = c in
-    let a = at.args in
-    let end : at.loop-i.i ≡ min a.count 16 = omega arith in
-    at.loop-i.invariant.1 ∙ ap (λ (k : ℕ). padded 16 (firsts (given_at a.regs a.pc a.mode a.big a.sas a.numbers) k)) end
+    let a = c.args in
+    let end : c.loop-i.i ≡ min a.count 16 = omega arith in
+    c.loop-i.invariant.1 ∙ ap (λ (k : ℕ). padded 16 (firsts (given_at a.regs a.pc a.mode a.big a.sas a.numbers) k)) end

@@ -31,16 +31,14 @@ loop-i-smaller c = omega arith
 
 pub loop-i-preserved : goal.loop-i-preserved
 loop-i-preserved c =
-    let at = c in
-    let a = at.args in (
+    let a = c.args in (
       omega arith,
-      next a.regs a.mode a.big a.shape a.numbers a.values at.loop-i.i at.loop-i.invariant.1
+      next a.regs a.mode a.big a.shape a.numbers a.values c.loop-i.i c.loop-i.invariant.1
           c.arrived.ensures c.load_to-to.ensures,
     )
 
 pub returns : goal.returns
 returns c =
-    let at = c in
-    let a = at.args in
-    let end : at.loop-i.i ≡ min a.count 16 = omega arith in
-    at.loop-i.invariant.1 ∙ ap (loaded_first a.regs a.mode a.big a.shape a.numbers a.values) end
+    let a = c.args in
+    let end : c.loop-i.i ≡ min a.count 16 = omega arith in
+    c.loop-i.invariant.1 ∙ ap (loaded_first a.regs a.mode a.big a.shape a.numbers a.values) end

@@ -12,12 +12,10 @@ of-held regs mode n value told same = ap (λ (h : Held). with_held regs h value)
 
 pub returns-in-Register : goal.returns-in-Register
 returns-in-Register c =
-    let held = c in
-    let a = held.args in
-    c.with_register.ensures ∙ of-held a.regs a.mode a.number a.value held.held_in.ensures c.in-Register.is
+    let a = c.args in
+    c.with_register.ensures ∙ of-held a.regs a.mode a.number a.value c.held_in.ensures c.in-Register.is
 
 pub returns-in-Nowhere : goal.returns-in-Nowhere
 returns-in-Nowhere c =
-    let held = c in
-    let a = held.args in
-    of-held a.regs a.mode a.number a.value held.held_in.ensures c.in-Nowhere.is
+    let a = c.args in
+    of-held a.regs a.mode a.number a.value c.held_in.ensures c.in-Nowhere.is

@@ -23,12 +23,11 @@ module _ (regs : List ℕ) (pc mode : ℕ) (a : Access) where
 
 pub returns-then-back : goal.returns-then-back
 returns-then-back c =
-    let past = c in
-    let a = past.args in
+    let a = c.args in
     c.with_held.ensures
     ∙ put a.regs a.pc a.mode a.access c.base_register-base.ensures
     c.value_of.ensures c.sum-after.ensures
-    ∙ by a.regs a.pc a.mode a.access past.back.ensures past.if-back.true
+    ∙ by a.regs a.pc a.mode a.access c.back.ensures c.if-back.true
 
 pub returns-else-back : goal.returns-else-back
 returns-else-back c =

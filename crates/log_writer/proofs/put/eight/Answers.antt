@@ -11,12 +11,11 @@ use Rattle.log_writer.proofs.put.eight.Goals as goal
 
 pub returns : goal.returns
 returns c =
-    let first = c in
-    let a = first.args in
+    let a = c.args in
     let second = c.four in (
-      omega (arith, first.four-high.ensures.0, second.ensures.0),
-      second.ensures.1 ∙ rw first.four-high.ensures.1
-          (sets_both (little 4 a.n) (little 4 (a.n / 4294967296)) a.out.now a.at first.four-high.result
-          (first.four-high.ensures.0 ∙ ap (λ k. a.at + k) (sym (length_little 4 a.n)))
+      omega (arith, c.four-high.ensures.0, second.ensures.0),
+      second.ensures.1 ∙ rw c.four-high.ensures.1
+          (sets_both (little 4 a.n) (little 4 (a.n / 4294967296)) a.out.now a.at c.four-high.result
+          (c.four-high.ensures.0 ∙ ap (λ k. a.at + k) (sym (length_little 4 a.n)))
           ∙ ap (sets a.out.now a.at) (eight_bytes a.n)),
     )
