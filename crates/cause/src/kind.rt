@@ -41,6 +41,7 @@ pub struct Cause {
 }
 
 // The kind of a code. No edition has a code but these, and 0x35 is the last.
+#[tactic(auto, unfolding(crate::specs::Kind::kind_of))]
 fn kind_of(code: u32) -> Kind
     ensures { result ≡ kind_of code }
 {
