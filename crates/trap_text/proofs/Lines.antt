@@ -1,8 +1,8 @@
 -- The lines of the editions below a number, by one edition more.
 -- Assumes nothing.
 use mathlib.Core.Bool.{cond}
-use mathlib.Core.List.{List, [], ◌++◌}
-use Prim.Native.Nat.{ℕ, zero, suc, ◌+◌}
+use mathlib.Core.List.{List, []}
+use Prim.Native.Nat.{ℕ, ◌+◌}
 use native.Mathlib.Numerals.{add-one}
 use Rattle.bits.specs.Field.{bit_of}
 use Rattle.text.specs.Append.{Appends}

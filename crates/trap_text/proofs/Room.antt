@@ -2,7 +2,7 @@
 -- Assumes nothing.
 use mathlib.Core.Bool.{Bool, true, false, cond}
 use mathlib.Core.List.{List, [], ◌++◌}
-use Prim.Native.Nat.{ℕ, zero, suc, ◌+◌, ◌*◌, ◌≤◌}
+use Prim.Native.Nat.{ℕ, zero, suc, ◌*◌, ◌≤◌}
 use native.Mathlib.Omega.{arith}
 use lib.ListN.{length, length-append}
 use Rattle.registers.specs.declared.Far.{Far}
@@ -14,16 +14,14 @@ use Rattle.edition.specs.Feature.{editions}
 use Rattle.explain_text.specs.Trap.{trap_said}
 use Rattle.explain_text.proofs.Room.{trap_said_length}
 use Rattle.log_text.proofs.Room.{decimal_field_length, hex_field_length, edition_field_length, words_length}
-use Rattle.log_text.specs.Lines.{decimal_field, hex_field, words_text}
+use Rattle.log_text.specs.Lines.{words_text}
 use Rattle.registers.specs.declared.Esr.{Esr}
 use Rattle.record.specs.declared.origin.Origin.{Origin}
 use Rattle.trap.specs.Answer.{answer_of}
 use Rattle.trap_refusal.specs.Numbers.{trap_number, trap_mask, trap_count}
 use Rattle.trap.specs.Trap.{virtual_in, intermediate_in}
 use Rattle.trap.specs.declared.Answer.{Answer}
-use Rattle.trap.specs.declared.Trap.{Trap}
-use Rattle.trap_refusal.specs.declared.TrapRefusal.{TrapRefusal}
-use Rattle.trap_text.specs.Shown.{virtual_text, intermediate_text, taken_text, refusal_text, answer_text, shown_text, told_text, lines_below}
+use Rattle.trap_text.specs.Shown.{virtual_text, intermediate_text, answer_text, shown_text, told_text, lines_below}
 use Rattle.trap_text.specs.Shown.{trap_text}
 
 virtual_length : (a : VirtualAddress) → length (virtual_text a) ≤ 32
