@@ -18,27 +18,27 @@
  *
  *   knucklepin_a32_describe           896   896
  *   knucklepin_a32_encode             128   128
- *   knucklepin_a32_finish            1664  1536
+ *   knucklepin_a32_finish            2688  2560
  *   knucklepin_a32_form               128   128
  *   knucklepin_a32_rewrite            128   256
- *   knucklepin_aarch64_read           512   640
- *   knucklepin_aarch64_rewrite        640   640
- *   knucklepin_cause                  512   640
+ *   knucklepin_aarch64_read           256   384
+ *   knucklepin_aarch64_rewrite        384   384
+ *   knucklepin_cause                  512   512
  *   knucklepin_coprocessor_finish     896   896
  *   knucklepin_deliver                384   384
  *   knucklepin_delivery_correction    128   128
  *   knucklepin_edition_raw            128   128
- *   knucklepin_esr_read_raw           640   640
- *   knucklepin_esr_write_raw          640   640
- *   knucklepin_explain_short_raw    13312 13312
- *   knucklepin_explain_trap_raw     13696 13824
- *   knucklepin_explain_word_raw     13440 13440
- *   knucklepin_finish                 896   896
+ *   knucklepin_esr_read_raw           384   384
+ *   knucklepin_esr_write_raw          384   512
+ *   knucklepin_explain_short_raw    10112 10112
+ *   knucklepin_explain_trap_raw     10240 10240
+ *   knucklepin_explain_word_raw     10240 10112
+ *   knucklepin_finish                 768   768
  *   knucklepin_from_spsr              128   128
  *   knucklepin_held_in                128   128
- *   knucklepin_hsr_read_raw           640   640
- *   knucklepin_hsr_write_raw          640   640
- *   knucklepin_inject                 128   128
+ *   knucklepin_hsr_read_raw           256   256
+ *   knucklepin_hsr_write_raw          384   512
+ *   knucklepin_inject                 256   384
  *   knucklepin_injection_correction   128   128
  *   knucklepin_log_look               128   128
  *   knucklepin_log_read               128   128
@@ -47,16 +47,16 @@
  *   knucklepin_passes                 384   384
  *   knucklepin_raise                  128   128
  *   knucklepin_ran_raw                128   128
- *   knucklepin_read                   512   640
- *   knucklepin_resume                 128   128
- *   knucklepin_rewrite                640   640
+ *   knucklepin_read                   256   384
+ *   knucklepin_resume                 256   256
+ *   knucklepin_rewrite                384   384
  *   knucklepin_short_edition_raw      128   128
- *   knucklepin_short_read             640   512
- *   knucklepin_short_rewrite          768   640
- *   knucklepin_step_over              640   640
+ *   knucklepin_short_read             256   256
+ *   knucklepin_short_rewrite          384   384
+ *   knucklepin_step_over              512   512
  *   knucklepin_to_spsr                128   128
- *   knucklepin_trap_read_raw          640   640
- *   knucklepin_widen                  768   640
+ *   knucklepin_trap_read_raw          384   384
+ *   knucklepin_widen                  512   640
  */
 #ifndef KNUCKLEPIN_H
 #define KNUCKLEPIN_H
