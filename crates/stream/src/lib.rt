@@ -44,10 +44,35 @@ fn interrupted(got: &Result<usize>) -> bool {
     }
 }
 
+// Puts the library's text of an error at the start of a space, and gives its length.
+fn put_error(space: &mut [u8], error: Error) -> usize
+    ensures { IsPrefixLen result space.new }
+{
+    let room = space.len();
+    let mut rest: &mut [u8] = space;
+    let _ = write!(rest, "{error}");
+    room - rest.len().min(room)
+}
+
+// The system's words in that text, which has the error's number behind them.
+fn words(text: &[u8]) -> &[u8] {
+    let mark = b" (os error ";
+    for i in 0..text.len() {
+        if text[i..].starts_with(mark) {
+            return &text[..i];
+        }
+    }
+    text
+}
+
 // Writes a line to standard error: what failed, a colon and the system's words. Where that fails too, nothing is told.
 pub fn tell<E: Write>(errors: &mut E, what: &[u8], error: Error) {
+    let mut space = [0u8; 256];
+    let n = put_error(&mut space, error);
     let _ = errors.write_all(what);
-    let _ = writeln!(errors, ": {error}");
+    let _ = errors.write_all(b": ");
+    let _ = errors.write_all(words(&space[..n]));
+    let _ = errors.write_all(b"\n");
 }
 
 // Reads some bytes of a file, which has this name for a failure. A proved loop has to end, and nothing says that signals do: it counts
