@@ -1,8 +1,8 @@
 // Bytes read from a file and written to standard output. A call that a signal interrupts is made again, and one that fails is told on
 // standard error, in the system's words. And a program's arguments.
 //
-// The file, standard output and standard error are a reader and two writers, which the caller holds. No contract can say which bytes were
-// read or written, or why a call failed.
+// The file, standard output and standard error are a reader and two writers, which the caller holds. Of those of the system no contract can
+// say which bytes were read or written, or why a call failed.
 #![tactic(auto)]
 
 ghost use Rattle.std.specs.Prelude.{◌≡◌, length};
