@@ -6,7 +6,7 @@ ghost use Rattle.names.specs.Table.{texts, lists, together};
 const LISTS: usize = 39;
 
 // The texts, one after the other: the labels, and then each list of meanings by the value.
-const BYTES: [u8; 9643] = *b"\
+static BYTES: [u8; 9643] = *b"\
     ECILCVCONDTIOpc2Opc1CRnRtCRmDirectionRt2imm8RnOffsetAMimm16CommentCCKNOWNPASSSETFnVEAS1PTWIFSCISVSASSSESRTSFARCMWnRDFS\
     CEXAETTAcoproc0:FnV\
     : Unknown reason\
@@ -336,8 +336,7 @@ fn cut(out: &mut [u8], at: usize, start: usize, end: usize) -> usize
     requires { (start ≤ end) × (end ≤ 9643) }
     ensures { Appends (take (end - start) (drop start (together texts))) out.old at out.new result }
 {
-    let bytes = BYTES;
-    text::append(out, at, &bytes[start..end])
+    text::append(out, at, &BYTES[start..end])
 }
 
 // Appends text n.
