@@ -128,7 +128,10 @@ pub fn write<W: Write, E: Write>(out: &mut W, errors: &mut E, bytes: &[u8]) -> b
     match out.write_all(bytes) {
         Ok(()) => true,
         Err(error) => {
-            tell(errors, b"standard output", error);
+            // A pipe that nobody reads any more ends a program with nothing told.
+            if error.kind() != ErrorKind::BrokenPipe {
+                tell(errors, b"standard output", error);
+            }
             false
         }
     }
