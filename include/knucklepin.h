@@ -30,9 +30,9 @@
  *   knucklepin_edition_raw            128   128
  *   knucklepin_esr_read_raw           384   384
  *   knucklepin_esr_write_raw          384   512
- *   knucklepin_explain_short_raw    10112 10112
- *   knucklepin_explain_trap_raw     10240 10240
- *   knucklepin_explain_word_raw     10240 10112
+ *   knucklepin_explain_short_raw      256   384
+ *   knucklepin_explain_trap_raw       384   512
+ *   knucklepin_explain_word_raw       384   512
  *   knucklepin_finish                 768   768
  *   knucklepin_from_spsr              128   128
  *   knucklepin_held_in                128   128
