@@ -47,8 +47,9 @@ def declared(root):
     """The names that specs/ and proofs/ declare: those that are spelled in the older way, and the others."""
     names, others = set(), set()
     for path in texts(os.path.join(root, "crates"), (".antt",)):
-        made = os.path.basename(path) in MADE and "/proofs/" in path and path.count("/proofs/") and \
-            os.path.dirname(path).rsplit("/", 1)[-1] != "proofs"
+        folder, base = os.path.split(path)
+        # the proof of one function, which names goals; of such a name beside the lemmas' files it is one of them
+        made = base in MADE and "/proofs/" in path and os.path.basename(folder) != "proofs"
         for line in read(path).split("\n"):
             line = line.split("--", 1)[0]
             m = DECLARED.match(line)
