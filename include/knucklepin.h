@@ -16,12 +16,12 @@
  * floating-point or SIMD register, no memory that is written but what a call is lent and the stack. A call, with all that it calls, takes
  * at most so many bytes of stack on AArch64, and on 32-bit Arm:
  *
- *   knucklepin_a32_describe           896   896
+ *   knucklepin_a32_describe           896   384
  *   knucklepin_a32_encode             128   128
- *   knucklepin_a32_finish            2688  2560
+ *   knucklepin_a32_finish            2688  2304
  *   knucklepin_a32_form               128   128
  *   knucklepin_a32_rewrite            128   256
- *   knucklepin_aarch64_read           256   384
+ *   knucklepin_aarch64_read           384   384
  *   knucklepin_aarch64_rewrite        384   384
  *   knucklepin_cause                  512   512
  *   knucklepin_coprocessor_finish     896   896
@@ -29,16 +29,16 @@
  *   knucklepin_delivery_correction    128   128
  *   knucklepin_edition_raw            128   128
  *   knucklepin_esr_read_raw           384   384
- *   knucklepin_esr_write_raw          384   512
- *   knucklepin_explain_short_raw      256   384
- *   knucklepin_explain_trap_raw       384   512
- *   knucklepin_explain_word_raw       384   512
+ *   knucklepin_esr_write_raw          512   512
+ *   knucklepin_explain_short_raw      384   256
+ *   knucklepin_explain_trap_raw       512   640
+ *   knucklepin_explain_word_raw       384   640
  *   knucklepin_finish                 768   768
  *   knucklepin_from_spsr              128   128
  *   knucklepin_held_in                128   128
- *   knucklepin_hsr_read_raw           256   256
+ *   knucklepin_hsr_read_raw           384   384
  *   knucklepin_hsr_write_raw          384   512
- *   knucklepin_inject                 256   384
+ *   knucklepin_inject                 256   256
  *   knucklepin_injection_correction   128   128
  *   knucklepin_log_look               128   128
  *   knucklepin_log_read               128   128
@@ -47,8 +47,8 @@
  *   knucklepin_passes                 384   384
  *   knucklepin_raise                  128   128
  *   knucklepin_ran_raw                128   128
- *   knucklepin_read                   256   384
- *   knucklepin_resume                 256   256
+ *   knucklepin_read                   384   384
+ *   knucklepin_resume                 384   384
  *   knucklepin_rewrite                384   384
  *   knucklepin_short_edition_raw      128   128
  *   knucklepin_short_read             256   256
@@ -56,7 +56,7 @@
  *   knucklepin_step_over              512   512
  *   knucklepin_to_spsr                128   128
  *   knucklepin_trap_read_raw          384   384
- *   knucklepin_widen                  512   640
+ *   knucklepin_widen                  640   640
  */
 #ifndef KNUCKLEPIN_H
 #define KNUCKLEPIN_H

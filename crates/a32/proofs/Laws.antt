@@ -3,6 +3,7 @@
 use mathlib.Core.Path.{◌≡◌, refl, ◌∙◌, sym, ap}
 use mathlib.Core.Bool.{Bool, true, false}
 use mathlib.Core.Logic.{◌↔◌}
+use Rattle.std.specs.Prelude.{Ok}
 use Prim.Native.Nat.{ℕ}
 use Rattle.bits.specs.Decide.{FailsWith}
 use Rattle.bits.proofs.Arms.{absurd_answer}
@@ -19,7 +20,6 @@ use Rattle.a32_rule.proofs.Answers.{decode_taken}
 use Rattle.a32_rule.proofs.Forms.{decode_exactly, taken_form}
 use Rattle.a32_access.specs.declared.access.Access.{Access}
 use Rattle.a32.specs.Promise.{access_of, answer_number, describe_numbers, described_answer}
-use Rattle.a32.specs.declared.instruction.Answer.TheVariants.{Taken}
 use Rattle.a32.proofs.Describing.{answered, first_fails, second_fails, third_fails, none_fails}
 
 -- EACH NUMBER EXACTLY: 9, then 19 in T32 state, then 19 for the word, and 0 where none fails
@@ -28,12 +28,12 @@ describe_exactly s w = fails_exactly (describe_numbers s w) (answered s w refl)
 
 -- WHAT IS DESCRIBED: exactly a sound state's A32 instruction that some legal fields make, by those fields
 pub described_exactly : (s : Guest) (w : ℕ) (a : Access)
-    → (described_answer s w ≡ Taken a)
+    → (described_answer s w ≡ Ok a)
     ↔ ((sound s.marks s.status ≡ true) × (t32 s.status ≡ false)
     × ((f : Fields) × (legal f ≡ true) × (fields_word f ≡ w) × (a ≡ access_of s f)))
 described_exactly s w a = (forward, back)
   where
-    forward : described_answer s w ≡ Taken a
+    forward : described_answer s w ≡ Ok a
         → (sound s.marks s.status ≡ true) × (t32 s.status ≡ false)
         × ((f : Fields) × (legal f ≡ true) × (fields_word f ≡ w) × (a ≡ access_of s f))
     forward t = by (sound s.marks s.status) refl (t32 s.status) refl (is_form w) refl
@@ -51,8 +51,8 @@ described_exactly s w a = (forward, back)
 
     back : (sound s.marks s.status ≡ true) × (t32 s.status ≡ false)
         × ((f : Fields) × (legal f ≡ true) × (fields_word f ≡ w) × (a ≡ access_of s f))
-        → described_answer s w ≡ Taken a
+        → described_answer s w ≡ Ok a
     back h =
         let f = h.2.0 in
         let form = taken_form w f ((decode_exactly w f).1 (h.2.1, h.2.2)) in
-        none_fails s w h.0 h.1 form.0 ∙ ap (λ (g : Fields). Taken (access_of s g)) form.1 ∙ ap Taken (sym h.2.3)
+        none_fails s w h.0 h.1 form.0 ∙ ap (λ (g : Fields). Ok (access_of s g)) form.1 ∙ ap Ok (sym h.2.3)

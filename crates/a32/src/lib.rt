@@ -3,4 +3,4 @@
 
 mod instruction;
 
-pub use instruction::{Answer, Described, describe, number};
+pub use instruction::{Described, InstructionRefusal, bank_of, describe, number};

@@ -1,12 +1,11 @@
 -- What a register of the guest reads as (02, C-18): register 15 is PC plus 8; every other stands in the state where the mode's mapping says
 -- (status, specs/Register.antt).
-use Rattle.std.specs.Prelude.{ℕ, ◌+◌, ◌*◌, ◌/◌, ◌%◌, ◌^◌, cond, List, ◌==◌, slice_index}
-use Rattle.status.specs.declared.Held.{Held}
+use Rattle.std.specs.Prelude.{ℕ, ◌+◌, ◌*◌, ◌/◌, ◌%◌, ◌^◌, cond, List, Option, Some, None, ◌==◌, slice_index}
 use Rattle.status.specs.Register.{held_in}
 
-abbrev pub held_value : List ℕ → Held → ℕ
-held_value regs (Held.Register n) = slice_index regs n
-held_value regs Held.Nowhere = 0
+abbrev pub held_value : List ℕ → Option ℕ → ℕ
+held_value regs (Some n) = slice_index regs n
+held_value regs None = 0
 
 -- register 15
 abbrev pub program_counter : ℕ → ℕ

@@ -5,7 +5,7 @@ ghost use Rattle.a32_access.specs.Access.{access_in};
 
 use crate::place::{address_of, change_of};
 use crate::transfers::{count_of, ones_of};
-use crate::value::{literal_base, value_of};
+use crate::value::{Bank, literal_base};
 use a32_fields::Fields;
 use signed::Signed;
 
@@ -18,14 +18,14 @@ pub struct Access {
     pub change: Signed,
 }
 
-fn base_of(regs: [u32; 31], pc: u32, mode: u32, f: Fields) -> u32
-    ensures { result ≡ base_of regs pc mode f }
+fn base_of(bank: &Bank, f: Fields) -> u32
+    ensures { result ≡ base_of bank.now.regs bank.now.pc bank.now.mode f }
 {
     match f {
-        Fields::Immediate(r) => value_of(regs, pc, mode, r.rn),
-        Fields::Register(r) => value_of(regs, pc, mode, r.rn),
-        Fields::Literal(r) => literal_base(pc),
-        Fields::Multiple(r) => value_of(regs, pc, mode, r.rn),
+        Fields::Immediate(r) => bank.value_of(r.rn),
+        Fields::Register(r) => bank.value_of(r.rn),
+        Fields::Literal(r) => literal_base(bank.pc),
+        Fields::Multiple(r) => bank.value_of(r.rn),
     }
 }
 
@@ -37,26 +37,26 @@ fn list_size(list: u32) -> u32
 }
 
 // An offset register counts as unsigned.
-fn offset_of(regs: [u32; 31], pc: u32, mode: u32, f: Fields) -> u32
-    ensures { result ≡ offset_of regs pc mode f }
+fn offset_of(bank: &Bank, f: Fields) -> u32
+    ensures { result ≡ offset_of bank.now.regs bank.now.pc bank.now.mode f }
 {
     match f {
         Fields::Immediate(r) => r.imm,
-        Fields::Register(r) => value_of(regs, pc, mode, r.rm),
+        Fields::Register(r) => bank.value_of(r.rm),
         Fields::Literal(r) => r.imm,
         Fields::Multiple(r) => list_size(r.list),
     }
 }
 
-pub fn access_in(regs: [u32; 31], pc: u32, mode: u32, f: Fields) -> Access
-    ensures { result ≡ access_in regs pc mode f }
+pub fn access_in(bank: &Bank, f: Fields) -> Access
+    ensures { result ≡ access_in bank.now.regs bank.now.pc bank.now.mode f }
 {
-    let size = offset_of(regs, pc, mode, f);
+    let size = offset_of(bank, f);
     let change = change_of(f, size);
     Access {
         fields: f,
         count: count_of(f),
-        address: address_of(f, base_of(regs, pc, mode, f), size),
+        address: address_of(f, base_of(bank, f), size),
         change,
     }
 }

@@ -10,4 +10,4 @@ mod value;
 pub use access::{Access, access_in};
 pub use place::back;
 pub use transfers::registers_of;
-pub use value::value_of;
+pub use value::Bank;

@@ -35,11 +35,7 @@ fn list_distance(p: bool, u: bool, size: u32) -> u32
     if u {
         if p { 4 } else { 0 }
     } else {
-        if p {
-            size
-        } else {
-            if size < 4 { 0 } else { size - 4 }
-        }
+        if p { size } else { size.saturating_sub(4) }
     }
 }
 

@@ -5,18 +5,19 @@ ghost use Rattle.std.specs.Prelude.{◌≡◌};
 ghost use Rattle.state_words.specs.Words.{state_of};
 ghost use Rattle.a32_calls.specs.Calls.{access_told, DescribedWords, transfer_told, FinishedWords};
 
+use a32::InstructionRefusal;
+use a32_access::Access;
+use a32_finish::Moved;
 use a32_words::access_words;
 use state_words::{state_of, words_of};
 
 // An access that is described, and zeros on a refusal.
-fn access_told(answer: a32::Answer) -> [u32; 16]
+fn access_told(answer: Result<Access, InstructionRefusal>) -> [u32; 16]
     ensures { result ≡ access_told answer }
 {
     match answer {
-        a32::Answer::Taken(access) => access_words(access),
-        a32::Answer::UnsoundStatus => [0u32; 16],
-        a32::Answer::T32State => [0u32; 16],
-        a32::Answer::NoForm => [0u32; 16],
+        Ok(access) => access_words(access),
+        Err(_) => [0u32; 16],
     }
 }
 
@@ -30,23 +31,20 @@ pub fn knucklepin_a32_describe(
     ensures { DescribedWords (state_of state.now) word result access.new registers.new }
 {
     let described = a32::describe(state_of(*state), word);
-    let answer = described.answer;
     let numbers = described.registers;
-    *access = access_told(answer);
+    *access = access_told(described.answer);
     *registers = numbers;
-    a32::number(answer)
+    a32::number(described.answer)
 }
 
 // Whether a store was made, and how many registers were transferred.
-fn transfer_told(answer: a32_finish::Answer) -> [u32; 2]
+fn transfer_told(answer: Result<Moved, InstructionRefusal>) -> [u32; 2]
     ensures { result ≡ transfer_told answer }
 {
     match answer {
-        a32_finish::Answer::Loaded(access) => [0, access.count],
-        a32_finish::Answer::Stored(access) => [1, access.count],
-        a32_finish::Answer::UnsoundStatus => [0, 0],
-        a32_finish::Answer::T32State => [0, 0],
-        a32_finish::Answer::NoForm => [0, 0],
+        Ok(Moved::Loaded(access)) => [0, access.count],
+        Ok(Moved::Stored(access)) => [1, access.count],
+        Err(_) => [0, 0],
     }
 }
 
@@ -64,13 +62,11 @@ pub fn knucklepin_a32_finish(
     let words = *state;
     let done = a32_finish::finish(state_of(words), word, *values);
     let outcome = done.outcome;
-    let after = done.state;
-    let answer = outcome.answer;
     let places = outcome.addresses;
     let out = outcome.values;
-    *state = words_of(words, after);
-    *transfer = transfer_told(answer);
+    *state = words_of(words, done.state);
+    *transfer = transfer_told(outcome.answer);
     *addresses = places;
     *given = out;
-    a32_finish::number(answer)
+    a32_finish::number(outcome.answer)
 }

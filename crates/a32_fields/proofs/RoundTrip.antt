@@ -17,10 +17,6 @@ use Rattle.a32_fields.specs.declared.kinds.Transfer.{Transfer}
 use Rattle.a32_fields.specs.declared.kinds.Transfer.TheVariants.{Ldr, Str, Ldrb, Strb, Ldrh, Strh, Ldrsb, Ldrsh, Ldrd, Strd}
 use Rattle.a32_fields.specs.declared.kinds.Code.{Code}
 use Rattle.a32_fields.specs.declared.kinds.Code.TheVariants.{Word, Extra}
-use Rattle.a32_fields.specs.declared.kinds.Immediate.{Immediate}
-use Rattle.a32_fields.specs.declared.kinds.Register.{Register}
-use Rattle.a32_fields.specs.declared.kinds.Literal.{Literal}
-use Rattle.a32_fields.specs.declared.kinds.Multiple.{Multiple}
 use Rattle.a32_fields.specs.declared.kinds.Fields.{Fields}
 
 -- every layout is in order, within 32 bits

@@ -135,6 +135,7 @@ fn extra_at(word: u64) -> Fields
 }
 
 // The fields at a word's bits. A group that has none of these forms reads as a list, which makes another word.
+#[tactic(auto, unfolding(crate::specs::Split::group_at))]
 fn group_at(group: u32, word: u64) -> Fields
     ensures { result ≡ group_at group word }
 {

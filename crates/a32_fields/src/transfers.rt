@@ -49,34 +49,20 @@ pub fn code(transfer: Transfer) -> Code
 pub fn loads(transfer: Transfer) -> bool
     ensures { result ≡ loads transfer }
 {
-    match transfer {
-        Transfer::Ldr => true,
-        Transfer::Str => false,
-        Transfer::Ldrb => true,
-        Transfer::Strb => false,
-        Transfer::Ldrh => true,
-        Transfer::Strh => false,
-        Transfer::Ldrsb => true,
-        Transfer::Ldrsh => true,
-        Transfer::Ldrd => true,
-        Transfer::Strd => false,
-    }
+    matches!(
+        transfer,
+        Transfer::Ldr
+            | Transfer::Ldrb
+            | Transfer::Ldrh
+            | Transfer::Ldrsb
+            | Transfer::Ldrsh
+            | Transfer::Ldrd
+    )
 }
 
 // Rt and the register after it.
 pub fn dual(transfer: Transfer) -> bool
     ensures { result ≡ dual transfer }
 {
-    match transfer {
-        Transfer::Ldr => false,
-        Transfer::Str => false,
-        Transfer::Ldrb => false,
-        Transfer::Strb => false,
-        Transfer::Ldrh => false,
-        Transfer::Strh => false,
-        Transfer::Ldrsb => false,
-        Transfer::Ldrsh => false,
-        Transfer::Ldrd => true,
-        Transfer::Strd => true,
-    }
+    matches!(transfer, Transfer::Ldrd | Transfer::Strd)
 }

@@ -3,6 +3,7 @@ use mathlib.Core.Path.{◌≡◌, refl, sym, ap, ◌∙◌}
 use mathlib.Core.Bool.{Bool, true, false, cond}
 use mathlib.Core.List.{List, [], ◌∷◌}
 use mathlib.Core.Logic.{◌↔◌}
+use Rattle.std.specs.Prelude.{Result, Ok, Err}
 use Prim.Native.Nat.{ℕ}
 use lib.Dec.{T}
 use Rattle.bits.specs.Among.{among}
@@ -13,8 +14,8 @@ use Rattle.exception.specs.declared.state.Guest.{Guest}
 use Rattle.a32_access.specs.Transferred.{registers_of, padded}
 use Rattle.a32_access.specs.declared.access.Access.{Access}
 use Rattle.a32_transfer.specs.Shape.{shape_of}
-use Rattle.a32.specs.declared.instruction.Answer.{Answer as Described}
-use Rattle.a32.specs.declared.instruction.Answer.TheVariants as described
+use Rattle.a32.specs.declared.instruction.InstructionRefusal.{InstructionRefusal}
+use Rattle.a32.specs.declared.instruction.InstructionRefusal.TheVariants.{UnsoundStatus, T32State, NoForm}
 use Rattle.a32.specs.Promise.{answer_number, describe_numbers, described_answer}
 use Rattle.a32.proofs.Describing.{answered}
 use Rattle.a32_finish.specs.declared.answer.Finished.{Finished}
@@ -23,9 +24,10 @@ use Rattle.a32_finish.specs.Finish.{to_load, to_store, performed, finished_by, f
 use Rattle.a32_finish.specs.Promise.{AccessPromise}
 
 -- what was described is what is finished
-pub settled : (s : Guest) (w : ℕ) (values : List ℕ) {d : Described} → described_answer s w ≡ d → finished_by s d values ≡ finished s w values
+pub settled : (s : Guest) (w : ℕ) (values : List ℕ) {d : Result Access InstructionRefusal} → described_answer s w ≡ d
+    → finished_by s d values ≡ finished s w values
 unfolding finished
-settled s w values e = sym (ap (λ (d : Described). finished_by s d values) e)
+settled s w values e = sym (ap (λ (d : Result Access InstructionRefusal). finished_by s d values) e)
 
 -- ---- the first test that fails gives the number, which is that of describing the word
 
@@ -41,11 +43,11 @@ performed_number s a numbers values = go (shape_of a.fields).load
     go true = refl
     go false = refl
 
-number_described : (s : Guest) (d : Described) (values : List ℕ) → number_in (finished_by s d values) ≡ answer_number d
-number_described s (described.Taken a) values = performed_number s a (padded 16 (registers_of a.fields)) values
-number_described s described.UnsoundStatus values = refl
-number_described s described.T32State values = refl
-number_described s described.NoForm values = refl
+number_described : (s : Guest) (d : Result Access InstructionRefusal) (values : List ℕ) → number_in (finished_by s d values) ≡ answer_number d
+number_described s (Ok a) values = performed_number s a (padded 16 (registers_of a.fields)) values
+number_described s (Err UnsoundStatus) values = refl
+number_described s (Err T32State) values = refl
+number_described s (Err NoForm) values = refl
 
 pub number_decided : (s : Guest) (w : ℕ) (values : List ℕ) → number_in (finished s w values) ≡ decide (describe_numbers s w) 0
 unfolding finished
@@ -56,12 +58,10 @@ pub promised : (s : Guest) (w : ℕ) (values : List ℕ) {f : Finished} → f �
 promised s w values e = answers number_in (describe_numbers s w) e (number_decided s w values)
 
 -- A REFUSAL gives back the very state
-refused_description : (s : Guest) (d : Described) (values : List ℕ) → (number_in (finished_by s d values) ≡ 0 → ⊥)
+refused_description : (s : Guest) (d : Result Access InstructionRefusal) (values : List ℕ) → (number_in (finished_by s d values) ≡ 0 → ⊥)
     → (finished_by s d values).state ≡ s
-refused_description s (described.Taken a) values n = absurd (n (performed_number s a (padded 16 (registers_of a.fields)) values))
-refused_description s described.UnsoundStatus values n = refl
-refused_description s described.T32State values n = refl
-refused_description s described.NoForm values n = refl
+refused_description s (Ok a) values n = absurd (n (performed_number s a (padded 16 (registers_of a.fields)) values))
+refused_description s (Err refusal) values n = refl
 
 pub refused_untouched : (s : Guest) (w : ℕ) (values : List ℕ) → (number_in (finished s w values) ≡ 0 → ⊥) → (finished s w values).state ≡ s
 unfolding finished

@@ -4,6 +4,7 @@
 use mathlib.Core.Path.{◌≡◌, refl, sym, ap, ap₂, ◌∙◌}
 use mathlib.Core.Bool.{Bool, true, false, not, ◌&&◌, cond}
 use mathlib.Core.List.{List, [], ◌∷◌}
+use Rattle.std.specs.Prelude.{Option, Some, None, Ok}
 use Prim.Native.Nat.{ℕ, ◌≤◌, min}
 use native.Mathlib.Omega.{arith}
 use lib.Dec.{eqb}
@@ -12,7 +13,6 @@ use borrow.Author.Tests.{le-leb, ne_eqb}
 use Rattle.edition.specs.Mask.{mask_of}
 use Rattle.record.specs.declared.kinds.DataAbort.{DataAbort}
 use Rattle.record.specs.declared.kinds.Record.{Record}
-use Rattle.status.specs.declared.Held.{Held}
 use Rattle.status.specs.Mode.{is_mode}
 use Rattle.status.specs.Register.{register_number, held_in}
 use Rattle.status.specs.Sound.{sound}
@@ -24,8 +24,9 @@ use Rattle.step.specs.Over.{had}
 use Rattle.step.specs.Step.{stepped}
 use Rattle.data.specs.Data.{big_endian, transferred, extended}
 use Rattle.device.specs.Finish as device
-use Rattle.device.specs.declared.answer.Answer.TheVariants as device-answer
-use Rattle.device.specs.declared.access.Finished.{Finished as DeviceFinished}
+use Rattle.device.specs.declared.answer.Moved.TheVariants as device-moved
+use Rattle.step.specs.declared.over.Onward.{Onward}
+use Rattle.device.specs.declared.answer.Moved.{Moved as DeviceMoved}
 use Rattle.device.proofs.Answers as device-laws
 use Rattle.a32_fields.specs.Layout.{fields_word}
 use Rattle.a32_fields.specs.declared.kinds.Fields.{Fields}
@@ -37,12 +38,10 @@ use Rattle.a32_access.specs.Place.{back_of}
 use Rattle.a32_access.specs.Value.{held_value, program_counter, value_of}
 use Rattle.a32_access.proofs.Counts.{count_length}
 use Rattle.a32_transfer.specs.declared.landing.Landing.{Landing}
-use Rattle.a32_transfer.specs.declared.landing.Next.{Next}
 use Rattle.a32_transfer.specs.declared.shape.Shape.{Shape}
 use Rattle.a32_transfer.specs.Shape.{shape_of}
 use Rattle.a32_transfer.specs.Landing.{with_held, arrived, load_to, loaded_first, written_back}
 use Rattle.a32_transfer.specs.Giving.{firsts, given_at}
-use Rattle.a32.specs.declared.instruction.Answer.TheVariants as described
 use Rattle.a32.specs.Promise.{access_of, described_answer}
 use Rattle.a32.proofs.Laws.{described_exactly}
 use Rattle.a32_finish.specs.declared.answer.Finished.{Finished}
@@ -66,7 +65,7 @@ pub record Tells (s : Guest) (f : Fields) (t : ℕ) (r : DataAbort) : Type 0 whe
 
 -- the word is described by its fields f, and some edition has the record
 module _ (s : Guest) (w : ℕ) (f : Fields) (t : ℕ) (r : DataAbort) (values : List ℕ) (one : One f t) (tells : Tells s f t r)
-    (d : described_answer s w ≡ described.Taken (access_of s f)) (h : had (Record.DataAbort r) ≡ true) where
+    (d : described_answer s w ≡ Ok (access_of s f)) (h : had (Record.DataAbort r) ≡ true) where
   abbrev mode : ℕ
   mode = mode_of s.status
 
@@ -93,30 +92,30 @@ module _ (s : Guest) (w : ℕ) (f : Fields) (t : ℕ) (r : DataAbort) (values : 
   not_15 = let below = one.below in ne_eqb t 15 (λ e. omega arith)
 
   -- where the register stands
-  held : held_in mode t ≡ Held.Register r.srt
+  held : held_in mode t ≡ Some r.srt
   held =
-      ap₂ (λ (a b : Bool). cond (a && b) (Held.Register (register_number mode t)) Held.Nowhere) (is_sound s.marks s.status good).mode
+      ap₂ (λ (a b : Bool). cond (a && b) (Some (register_number mode t)) None) (is_sound s.marks s.status good).mode
       (le-leb t 14 one.below)
-      ∙ ap Held.Register (sym tells.srt)
+      ∙ ap Some (sym tells.srt)
 
   kept_back : written_back s.regs s.pc mode (access_of s f) ≡ s.regs
   kept_back = rw one.stays
 
   -- ---- a load
   abbrev start : Landing
-  start = record { regs = s.regs; next = Next.After }
+  start = record { regs = s.regs; branch = None }
 
   abbrev with_value : ℕ → Landing
-  with_value v = record { regs = with_register s.regs r.srt v; next = Next.After }
+  with_value v = record { regs = with_register s.regs r.srt v; branch = None }
 
   loaded_one : (v : ℕ) → load_to mode start t v ≡ with_value v
   loaded_one v =
-      ap (λ (b : Bool). cond b (record { regs = s.regs; next = Next.Branch v })
-      (record { regs = with_held s.regs (held_in mode t) v; next = Next.After })) not_15
-      ∙ ap (λ (h : Held). landing (with_held s.regs h v)) held
+      ap (λ (b : Bool). cond b (record { regs = s.regs; branch = Some v })
+      (record { regs = with_held s.regs (held_in mode t) v; branch = None })) not_15
+      ∙ ap (λ (h : Option ℕ). landing (with_held s.regs h v)) held
     where
       landing : List ℕ → Landing
-      landing regs = record { regs = regs; next = Next.After }
+      landing regs = record { regs = regs; branch = None }
 
   landing : landing_in s (access_of s f) shape numbers values ≡ with_value (arrived shape big (get_or values 0 0))
   unfolding loaded_first
@@ -133,7 +132,7 @@ module _ (s : Guest) (w : ℕ) (f : Fields) (t : ℕ) (r : DataAbort) (values : 
   load_state : loaded s (access_of s f) shape numbers values ≡ (device.loaded s r (get_or values 0 0)).state
   unfolding loaded
   load_state =
-      ap (λ (l : Landing). gone_on s l.regs l.next) landing
+      ap (λ (l : Landing). gone_on s l.regs l.branch) landing
       ∙ ap₂ (λ (v : ℕ) (b : Bool). stepped s (with_register s.regs r.srt v) b) taken (sym tells.il)
 
   -- ---- a store
@@ -157,7 +156,7 @@ module _ (s : Guest) (w : ℕ) (f : Fields) (t : ℕ) (r : DataAbort) (values : 
   abbrev by_word : Finished
   by_word = finished s w values
 
-  abbrev by_chip : DeviceFinished
+  abbrev by_chip : Onward DeviceMoved
   by_chip = device.finished s (Record.DataAbort r) (get_or values 0 0)
 
   chip : device.accessed s r (get_or values 0 0) ≡ by_chip
@@ -190,18 +189,18 @@ module _ (s : Guest) (w : ℕ) (f : Fields) (t : ℕ) (r : DataAbort) (values : 
       go true l =
           ap (λ (x : Finished). x.state) (sym word ∙ performed_load l)
           ∙ load_state
-          ∙ ap (λ (x : DeviceFinished). x.state) (sym (accessed_load l) ∙ chip)
+          ∙ ap (λ (x : Onward DeviceMoved). x.state) (sym (accessed_load l) ∙ chip)
       go false l =
           ap (λ (x : Finished). x.state) (sym word ∙ performed_store l)
           ∙ store_state
-          ∙ ap (λ (x : DeviceFinished). x.state) (sym (accessed_store l) ∙ chip)
+          ∙ ap (λ (x : Onward DeviceMoved). x.state) (sym (accessed_store l) ∙ chip)
 
   -- THE SAME VALUE for the device, of a store
-  pub same_value : shape.load ≡ false → by_chip.answer ≡ device-answer.Stored (get_or by_word.outcome.values 0 0)
+  pub same_value : shape.load ≡ false → by_chip.answer ≡ Ok (device-moved.Stored (get_or by_word.outcome.values 0 0))
   same_value l =
-      ap (λ (x : DeviceFinished). x.answer) (sym chip ∙ accessed_store l)
-      ∙ ap device-answer.Stored (sym given_first)
-      ∙ ap (λ (x : Finished). device-answer.Stored (get_or x.outcome.values 0 0)) (sym (performed_store l) ∙ word)
+      ap (λ (x : Onward DeviceMoved). x.answer) (sym chip ∙ accessed_store l)
+      ∙ ap (λ (n : ℕ). Ok (device-moved.Stored n)) (sym given_first)
+      ∙ ap (λ (x : Finished). Ok (device-moved.Stored (get_or x.outcome.values 0 0))) (sym (performed_store l) ∙ word)
 
 -- ---- the two speak of something
 
@@ -247,7 +246,7 @@ sample_record load =
 
 -- A LOAD AND A STORE of which all that `same_state` asks for holds
 pub same_asked : (load : Bool) → One (sample load) 2 × Tells user_state (sample load) 2 (sample_record load)
-    × (described_answer user_state (fields_word (sample load)) ≡ described.Taken (access_of user_state (sample load)))
+    × (described_answer user_state (fields_word (sample load)) ≡ Ok (access_of user_state (sample load)))
     × (had (Record.DataAbort (sample_record load)) ≡ true)
 unfolding registers_of register_number sound is_mode legal mask_of has lawful
 same_asked true = (

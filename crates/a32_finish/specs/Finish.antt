@@ -1,6 +1,6 @@
 -- A described load or store that is finished: the answer, the addresses and values for the device, and the whole state after it. What is
 -- finished is what describing the word in the same state answers (crate a32), so that its tests are those.
-use Rattle.std.specs.Prelude.{ℕ, min, cond, true, List, []}
+use Rattle.std.specs.Prelude.{ℕ, min, cond, true, List, [], Option, Some, None, Result, Ok, Err}
 use Rattle.bits.specs.Field.{field_of}
 use Rattle.exception.specs.declared.state.Guest.{Guest}
 use Rattle.step.specs.Step.{stepped}
@@ -8,16 +8,13 @@ use Rattle.data.specs.Data.{big_endian}
 use Rattle.a32_access.specs.Transferred.{registers_of, padded}
 use Rattle.a32_access.specs.declared.access.Access.{Access}
 use Rattle.a32_transfer.specs.declared.landing.Landing.{Landing}
-use Rattle.a32_transfer.specs.declared.landing.Next.{Next}
 use Rattle.a32_transfer.specs.declared.shape.Shape.{Shape}
 use Rattle.a32_transfer.specs.Shape.{shape_of}
 use Rattle.a32_transfer.specs.Landing.{written_back, landed}
 use Rattle.a32_transfer.specs.Giving.{firsts, address_at, given_at}
-use Rattle.a32.specs.declared.instruction.Answer.{Answer as Described}
-use Rattle.a32.specs.declared.instruction.Answer.TheVariants as described
+use Rattle.a32.specs.declared.instruction.InstructionRefusal.{InstructionRefusal}
 use Rattle.a32.specs.Promise.{described_answer}
-use Rattle.a32_finish.specs.declared.answer.Answer.{Answer}
-use Rattle.a32_finish.specs.declared.answer.Answer.TheVariants.{Loaded, Stored, UnsoundStatus, T32State, NoForm}
+use Rattle.a32_finish.specs.declared.answer.Moved.TheVariants.{Loaded, Stored}
 use Rattle.a32_finish.specs.declared.answer.Finished.{Finished}
 use Rattle.a32_finish.specs.Branch.{branched}
 
@@ -28,9 +25,9 @@ mode_of w = field_of w 4 0
 -- ---- a load
 
 -- past the instruction, which is 4 bytes long, or where a load of register 15 leads
-abbrev pub gone_on : Guest → List ℕ → Next → Guest
-gone_on s regs Next.After = stepped s regs true
-gone_on s regs (Next.Branch value) = branched (stepped s regs true) value
+abbrev pub gone_on : Guest → List ℕ → Option ℕ → Guest
+gone_on s regs None = stepped s regs true
+gone_on s regs (Some value) = branched (stepped s regs true) value
 
 abbrev pub landing_in : Guest → Access → Shape → List ℕ → List ℕ → Landing
 landing_in s a shape numbers values =
@@ -38,7 +35,7 @@ landing_in s a shape numbers values =
     a.count
 
 unfoldable pub loaded : Guest → Access → Shape → List ℕ → List ℕ → Guest
-loaded s a shape numbers values = gone_on s (landing_in s a shape numbers values).regs (landing_in s a shape numbers values).next
+loaded s a shape numbers values = gone_on s (landing_in s a shape numbers values).regs (landing_in s a shape numbers values).branch
 
 -- ---- a store
 
@@ -59,14 +56,14 @@ given_in s a shape numbers =
 abbrev pub to_load : Guest → Access → Shape → List ℕ → List ℕ → Finished
 to_load s a shape numbers values =
     record {
-      outcome = record { answer = Loaded a; addresses = addresses_of a; values = padded 16 [] };
+      outcome = record { answer = Ok (Loaded a); addresses = addresses_of a; values = padded 16 [] };
       state = loaded s a shape numbers values;
     }
 
 abbrev pub to_store : Guest → Access → Shape → List ℕ → Finished
 to_store s a shape numbers =
     record {
-      outcome = record { answer = Stored a; addresses = addresses_of a; values = given_in s a shape numbers };
+      outcome = record { answer = Ok (Stored a); addresses = addresses_of a; values = given_in s a shape numbers };
       state = stored s a;
     }
 
@@ -75,14 +72,12 @@ performed s a numbers values =
     cond (shape_of a.fields).load (to_load s a (shape_of a.fields) numbers values) (to_store s a (shape_of a.fields) numbers)
 
 -- a refusal gives back the state as it came, and no address or value
-abbrev pub refusing : Answer → Guest → Finished
-refusing answer s = record { outcome = record { answer = answer; addresses = padded 16 []; values = padded 16 [] }; state = s }
+abbrev pub refusing : InstructionRefusal → Guest → Finished
+refusing refusal s = record { outcome = record { answer = Err refusal; addresses = padded 16 []; values = padded 16 [] }; state = s }
 
-abbrev pub finished_by : Guest → Described → List ℕ → Finished
-finished_by s (described.Taken a) values = performed s a (padded 16 (registers_of a.fields)) values
-finished_by s described.UnsoundStatus values = refusing UnsoundStatus s
-finished_by s described.T32State values = refusing T32State s
-finished_by s described.NoForm values = refusing NoForm s
+abbrev pub finished_by : Guest → Result Access InstructionRefusal → List ℕ → Finished
+finished_by s (Ok a) values = performed s a (padded 16 (registers_of a.fields)) values
+finished_by s (Err refusal) values = refusing refusal s
 
 unfoldable pub finished : Guest → ℕ → List ℕ → Finished
 finished s w values = finished_by s (described_answer s w) values

@@ -2,28 +2,24 @@
 ghost use Rattle.std.specs.Prelude.{◌≡◌};
 ghost use Rattle.a32_finish.specs.Answer.{finish_number};
 
+use a32::InstructionRefusal;
 use a32_access::Access;
 use exception::Guest;
 
 #[derive(Clone, Copy)]
-pub enum Answer {
+pub enum Moved {
     // A load: its registers have the device's values.
     Loaded(Access),
     // A store: the device gets the values beside this.
     Stored(Access),
-    // 9: the status word's mode, or a bit of its 24:21, is wrong.
-    UnsoundStatus,
-    // 19: the guest is in T32 state.
-    T32State,
-    // 19: the word is none of these forms, or its decoding is UNPREDICTABLE.
-    NoForm,
 }
 
 // The answer, with the address of each transfer and what a store gives the device there, in transfer order: as many as the access counts,
 // and 0 after them. A load gives nothing.
 #[derive(Clone, Copy)]
 pub struct Outcome {
-    pub answer: Answer,
+    pub answer: Result<Moved, InstructionRefusal>,
+    // Kept: C takes all sixteen words of each (knucklepin_a32_finish), and the definitions say that 0 stands after the last.
     pub addresses: [u32; 16],
     pub values: [u32; 16],
 }
@@ -34,14 +30,8 @@ pub struct Finished {
     pub state: Guest,
 }
 
-pub fn number(answer: Answer) -> u32
+pub fn number(answer: Result<Moved, InstructionRefusal>) -> u32
     ensures { result ≡ finish_number answer }
 {
-    match answer {
-        Answer::Loaded(_) => 0,
-        Answer::Stored(_) => 0,
-        Answer::UnsoundStatus => 9,
-        Answer::T32State => 19,
-        Answer::NoForm => 19,
-    }
+    a32::number(answer)
 }

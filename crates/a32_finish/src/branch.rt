@@ -15,6 +15,7 @@ fn with_t(status: u32, t: bool) -> u32
 }
 
 // The address without the bits that a PC in the new state hasn't: bit 0 in T32 state, bits 1:0 in A32 state.
+#[tactic(auto, unfolding(crate::specs::Branch::target_of))]
 fn target_of(value: u32) -> u32
     ensures { result ≡ target_of value }
 {
@@ -26,6 +27,7 @@ fn target_of(value: u32) -> u32
 }
 
 // Bit 0 chooses T32 state.
+#[tactic(auto, unfolding(crate::specs::Branch::branched))]
 pub(crate) fn branched(state: Guest, value: u32) -> Guest
     ensures { result ≡ branched state value }
 {

@@ -5,5 +5,5 @@ mod answer;
 mod branch;
 mod perform;
 
-pub use answer::{Answer, Finished, Outcome, number};
+pub use answer::{Finished, Moved, Outcome, number};
 pub use perform::finish;

@@ -5,6 +5,7 @@ use mathlib.Core.Path.{◌≡◌, refl, ◌∙◌, sym, ap}
 use mathlib.Core.Bool.{Bool, true, false}
 use mathlib.Core.List.{[], ◌∷◌}
 use mathlib.Core.Logic.{◌↔◌}
+use Rattle.std.specs.Prelude.{Some, None}
 use Prim.Native.Nat.{ℕ}
 use Rattle.bits.specs.Decide.{needs, FirstFails}
 use Rattle.bits.proofs.Arms.{absurd_answer}
@@ -15,8 +16,6 @@ use Rattle.a32_fields.specs.Split.{fields_at}
 use Rattle.a32_fields.specs.declared.kinds.Fields.{Fields}
 use Rattle.a32_rule.specs.Legal.{legal}
 use Rattle.a32_rule.specs.Answer.{loads_and_stores, is_form, decode_of, encode_of, number_decoded, number_encoded}
-use Rattle.a32_rule.specs.declared.answer.Decoded.{Decoded}
-use Rattle.a32_rule.specs.declared.answer.Encoded.{Encoded}
 use Rattle.a32_rule.proofs.Instance.{has_legal, sound}
 use Rattle.a32_rule.proofs.Answers.{decode_taken, decode_refused, encode_word, encode_refused, decodes, encodes}
 
@@ -31,10 +30,10 @@ pub same_fields : (f g : Fields) → legal f ≡ true → legal g ≡ true → f
 same_fields f g hf hg same = Forms.same_record loads_and_stores sound 0 0 f g hf hg same
 
 -- READING: the answer is some fields exactly when they are legal and make the word
-pub decode_exactly : (w : ℕ) (f : Fields) → (decode_of w ≡ Decoded.Taken f) ↔ ((legal f ≡ true) × (fields_word f ≡ w))
+pub decode_exactly : (w : ℕ) (f : Fields) → (decode_of w ≡ Some f) ↔ ((legal f ≡ true) × (fields_word f ≡ w))
 decode_exactly w f = (by (is_form w) refl, back)
   where
-    by : (b : Bool) → is_form w ≡ b → decode_of w ≡ Decoded.Taken f → (legal f ≡ true) × (fields_word f ≡ w)
+    by : (b : Bool) → is_form w ≡ b → decode_of w ≡ Some f → (legal f ≡ true) × (fields_word f ≡ w)
     by true h t =
         let found = Forms.word_record loads_and_stores sound 0 w h in
         let q = decode_taken w h in
@@ -42,27 +41,27 @@ decode_exactly w f = (by (is_form w) refl, back)
         (ap legal (sym same) ∙ has_legal 0 (fields_at w) found.0, ap fields_word (sym same) ∙ found.1)
     by false h t = let q = decode_refused w h in absurd_answer (cc (t, q))
 
-    back : (legal f ≡ true) × (fields_word f ≡ w) → decode_of w ≡ Decoded.Taken f
+    back : (legal f ≡ true) × (fields_word f ≡ w) → decode_of w ≡ Some f
     back h =
         decode_taken w ((is_form_exactly w).1 (f, h.0, h.1))
-        ∙ ap Decoded.Taken (Forms.at_record loads_and_stores sound 0 f h.0 w h.1)
+        ∙ ap Some (Forms.at_record loads_and_stores sound 0 f h.0 w h.1)
 
 -- WRITING: the answer is a word exactly when the fields are legal and make it
-pub encode_exactly : (f : Fields) (w : ℕ) → (encode_of f ≡ Encoded.Word w) ↔ ((legal f ≡ true) × (fields_word f ≡ w))
-encode_exactly f w = (by (legal f) refl, λ h. encode_word f h.0 ∙ ap Encoded.Word h.1)
+pub encode_exactly : (f : Fields) (w : ℕ) → (encode_of f ≡ Some w) ↔ ((legal f ≡ true) × (fields_word f ≡ w))
+encode_exactly f w = (by (legal f) refl, λ h. encode_word f h.0 ∙ ap Some h.1)
   where
-    by : (b : Bool) → legal f ≡ b → encode_of f ≡ Encoded.Word w → (legal f ≡ true) × (fields_word f ≡ w)
+    by : (b : Bool) → legal f ≡ b → encode_of f ≡ Some w → (legal f ≡ true) × (fields_word f ≡ w)
     by true h t = let q = encode_word f h in (h, cc (t, q))
     by false h t = let q = encode_refused f h in absurd_answer (cc (t, q))
 
 -- what a decoded word's answer says of the word
-pub taken_form : (w : ℕ) (f : Fields) → decode_of w ≡ Decoded.Taken f → (is_form w ≡ true) × (fields_at w ≡ f)
+pub taken_form : (w : ℕ) (f : Fields) → decode_of w ≡ Some f → (is_form w ≡ true) × (fields_at w ≡ f)
 taken_form w f t =
     let h = (decode_exactly w f).0 t in
     let is = (is_form_exactly w).1 (f, h.0, h.1) in
     (is, Forms.at_record loads_and_stores sound 0 f h.0 w h.1)
 
-pub refused_form : (w : ℕ) → decode_of w ≡ Decoded.Refused → is_form w ≡ false
+pub refused_form : (w : ℕ) → decode_of w ≡ None → is_form w ≡ false
 refused_form w t = by (is_form w) refl
   where
     by : (b : Bool) → is_form w ≡ b → is_form w ≡ false
@@ -70,7 +69,7 @@ refused_form w t = by (is_form w) refl
     by false h = h
 
 -- a word is read as some fields exactly when these are written to the same word
-pub decode_as_encode : (w : ℕ) (f : Fields) → (decode_of w ≡ Decoded.Taken f) ↔ (encode_of f ≡ Encoded.Word w)
+pub decode_as_encode : (w : ℕ) (f : Fields) → (decode_of w ≡ Some f) ↔ (encode_of f ≡ Some w)
 decode_as_encode w f = (
   λ t. (encode_exactly f w).1 ((decode_exactly w f).0 t),
   λ t. (decode_exactly w f).1 ((encode_exactly f w).0 t),

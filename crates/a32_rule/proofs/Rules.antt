@@ -1,34 +1,16 @@
 -- Each form's rule is what the code tests: what Rt must be, the base, the offset register and the write-back.
 -- Assumes nothing.
 use mathlib.Core.Path.{◌≡◌, refl, ap}
-use mathlib.Core.Bool.{Bool, true, false, not, cond, ◌&&◌, ◌||◌, and-true}
+use mathlib.Core.Bool.{Bool, not, ◌&&◌, and-true}
 use mathlib.Core.List.{[], ◌∷◌}
 use Prim.Native.Nat.{ℕ, ◌+◌}
 use lib.Dec.{eqb}
 use Rattle.bits.specs.Among.{among}
-use Rattle.bits.proofs.Among.{among_after_lem}
 use Rattle.a32_fields.specs.Code.{loads, dual}
 use Rattle.a32_fields.specs.declared.kinds.Transfer.{Transfer}
 use Rattle.a32_fields.specs.declared.kinds.Transfer.TheVariants.{Ldr, Str, Ldrb, Strb, Ldrh, Strh, Ldrsb, Ldrsh, Ldrd, Strd}
 use Rattle.a32_rule.specs.Rule.{back_rule, pair_rule, immediate_rule, register_rule, literal_rule}
 use Rattle.a32_rule.specs.Inner.{target_rule, transferred_by}
-
--- one of two, as code tests them
-pub or_two : (a b : Bool) → (a || b) ≡ (a || (b || false))
-or_two true b = refl
-or_two false true = refl
-or_two false false = refl
-
-or_last : (a b : Bool) → ((a || b) || false) ≡ (a || (b || false))
-or_last true b = refl
-or_last false true = refl
-or_last false false = refl
-
--- the base is 15, Rt or, of two registers, the second
-pub among_written : (n t : ℕ) (d : Bool)
-    → ((eqb n 15 || eqb n t) || (d && eqb n (t + 1))) ≡ among (15 ∷ cond d (t ∷ (t + 1) ∷ []) (t ∷ [])) n
-among_written n t true = among_after_lem false (15 ∷ t ∷ (t + 1) ∷ []) n
-among_written n t false = or_last (eqb n 15) (eqb n t)
 
 module _ (back : Bool) (n t : ℕ) where
   pub immediate_by : (x : Transfer)

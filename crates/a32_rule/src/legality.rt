@@ -14,18 +14,10 @@ use bits::bit;
 fn narrow(transfer: Transfer) -> bool
     ensures { result ≡ narrow transfer }
 {
-    match transfer {
-        Transfer::Ldr => false,
-        Transfer::Str => false,
-        Transfer::Ldrb => true,
-        Transfer::Strb => true,
-        Transfer::Ldrh => true,
-        Transfer::Strh => true,
-        Transfer::Ldrsb => true,
-        Transfer::Ldrsh => true,
-        Transfer::Ldrd => false,
-        Transfer::Strd => false,
-    }
+    !matches!(
+        transfer,
+        Transfer::Ldr | Transfer::Str | Transfer::Ldrd | Transfer::Strd
+    )
 }
 
 fn immediate_fits(code: Code, imm: u32) -> bool
@@ -91,6 +83,7 @@ fn multiple_rule(load: bool, w: bool, rn: u32, list: u32) -> bool
     !(rn == 15) & !(list == 0) & !(load & w & bit(list as u64, rn))
 }
 
+#[tactic(auto, using(crate::proofs::Fits::legal_immediate))]
 fn immediate(r: Immediate) -> bool
     ensures { result ≡ legal (Fields.Immediate r) }
 {
@@ -102,6 +95,7 @@ fn immediate(r: Immediate) -> bool
         & ((r.p | !r.w) & immediate_rule(transfer, !r.p | r.w, r.rn, r.rt))
 }
 
+#[tactic(auto, using(crate::proofs::Fits::legal_register))]
 fn register(r: Register) -> bool
     ensures { result ≡ legal (Fields.Register r) }
 {
@@ -113,6 +107,7 @@ fn register(r: Register) -> bool
         & ((r.p | !r.w) & register_rule(transfer, !r.p | r.w, r.rn, r.rt, r.rm))
 }
 
+#[tactic(auto, using(crate::proofs::Fits::legal_literal))]
 fn literal(r: Literal) -> bool
     ensures { result ≡ legal (Fields.Literal r) }
 {
@@ -123,6 +118,7 @@ fn literal(r: Literal) -> bool
         & literal_rule(transfer, r.rt)
 }
 
+#[tactic(auto, using(crate::proofs::Fits::legal_multiple))]
 fn multiple(r: Multiple) -> bool
     ensures { result ≡ legal (Fields.Multiple r) }
 {

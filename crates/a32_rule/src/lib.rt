@@ -4,4 +4,4 @@
 mod answer;
 mod legality;
 
-pub use answer::{Decoded, Encoded, decode, encode};
+pub use answer::{decode, encode};

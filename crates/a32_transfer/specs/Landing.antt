@@ -1,7 +1,6 @@
 -- What a load leaves: the registers of its mode, and where the guest goes on. The base is written back as well.
-use Rattle.std.specs.Prelude.{ℕ, zero, suc, min, Bool, cond, List, ◌==◌, slice_index}
+use Rattle.std.specs.Prelude.{ℕ, zero, suc, min, Bool, cond, List, Option, Some, None, ◌==◌, slice_index}
 use Rattle.signed.specs.Signed.{signed, sum_of}
-use Rattle.status.specs.declared.Held.{Held}
 use Rattle.status.specs.Register.{held_in}
 use Rattle.exception.specs.State.{with_register}
 use Rattle.data.specs.Data.{transferred, extended}
@@ -11,12 +10,11 @@ use Rattle.a32_access.specs.Place.{back_of}
 use Rattle.a32_access.specs.Value.{value_of}
 use Rattle.a32_transfer.specs.declared.shape.Shape.{Shape}
 use Rattle.a32_transfer.specs.declared.landing.Landing.{Landing}
-use Rattle.a32_transfer.specs.declared.landing.Next.TheVariants.{After, Branch}
 
 -- the registers with another value in a register of the mode, where the mode's mapping says (status, specs/Register.antt)
-abbrev pub with_held : List ℕ → Held → ℕ → List ℕ
-with_held regs (Held.Register n) value = with_register regs n value
-with_held regs Held.Nowhere value = regs
+abbrev pub with_held : List ℕ → Option ℕ → ℕ → List ℕ
+with_held regs (Some n) value = with_register regs n value
+with_held regs None value = regs
 
 -- Rn; a literal's base is register 15
 abbrev pub base_register : Fields → ℕ
@@ -40,12 +38,12 @@ arrived shape big value = extended shape.sas shape.sse (transferred shape.sas bi
 abbrev pub load_to : ℕ → Landing → ℕ → ℕ → Landing
 load_to mode to n value =
     cond (n == 15)
-    (record { regs = to.regs; next = Branch value })
-    (record { regs = with_held to.regs (held_in mode n) value; next = to.next })
+    (record { regs = to.regs; branch = Some value })
+    (record { regs = with_held to.regs (held_in mode n) value; branch = to.branch })
 
 -- the first registers loaded, in transfer order: numbers and values stand in lists
 unfoldable pub loaded_first : List ℕ → ℕ → Bool → Shape → List ℕ → List ℕ → ℕ → Landing
-loaded_first regs mode big shape numbers values zero = record { regs = regs; next = After }
+loaded_first regs mode big shape numbers values zero = record { regs = regs; branch = None }
 loaded_first regs mode big shape numbers values (suc i) =
     load_to mode (loaded_first regs mode big shape numbers values i) (slice_index numbers i) (arrived shape big (slice_index values i))
 

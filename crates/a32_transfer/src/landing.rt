@@ -4,23 +4,17 @@ ghost use Rattle.a32_transfer.specs.Landing.{with_held, base_register, written_b
 ghost use Rattle.status.specs.Register.{held_in};
 
 use super::shape::Shape;
-use a32_access::{Access, back, value_of};
+use a32_access::{Access, Bank, back};
 use a32_fields::Fields;
 use data::{extended, transferred};
 use signed::sum;
-use status::{Held, held_in};
+use status::held_in;
 
-// Where the guest goes on: at the next instruction, or where a load of register 15 says.
-#[derive(Clone, Copy)]
-pub enum Next {
-    After,
-    Branch(u32),
-}
-
+// The registers, and where a load of register 15 says that the guest goes on: else it does at the next instruction.
 #[derive(Clone, Copy)]
 pub struct Landing {
     pub regs: [u32; 31],
-    pub next: Next,
+    pub branch: Option<u32>,
 }
 
 // The registers with a new value in a register of the mode; register 15 is none of them.
@@ -28,8 +22,8 @@ fn with_held(regs: [u32; 31], mode: u32, number: u32, value: u32) -> [u32; 31]
     ensures { result ≡ with_held regs (held_in mode number) value }
 {
     match held_in(mode, number) {
-        Held::Register(n) => exception::with_register(regs, n as usize, value),
-        Held::Nowhere => regs,
+        Some(n) => exception::with_register(regs, n as usize, value),
+        None => regs,
     }
 }
 
@@ -45,17 +39,16 @@ fn base_register(f: Fields) -> u32
 }
 
 // The registers with the base changed, where it is written back.
-pub fn written_back(regs: [u32; 31], pc: u32, mode: u32, access: Access) -> [u32; 31]
-    ensures { result ≡ written_back regs pc mode access }
+pub fn written_back(bank: &Bank, access: Access) -> [u32; 31]
+    ensures { result ≡ written_back bank.now.regs bank.now.pc bank.now.mode access }
 {
     let f = access.fields;
     if back(f) {
-        let change = access.change;
         let base = base_register(f);
-        let after = sum(value_of(regs, pc, mode, base), change);
-        with_held(regs, mode, base, after)
+        let after = sum(bank.value_of(base), access.change);
+        with_held(bank.regs, bank.mode, base, after)
     } else {
-        regs
+        bank.regs
     }
 }
 
@@ -70,17 +63,15 @@ fn arrived(shape: Shape, big: bool, value: u32) -> u32
 fn load_to(to: Landing, mode: u32, number: u32, value: u32) -> Landing
     ensures { result ≡ load_to mode to number value }
 {
-    let regs = to.regs;
-    let next = to.next;
     if number == 15 {
         Landing {
-            regs,
-            next: Next::Branch(value),
+            branch: Some(value),
+            ..to
         }
     } else {
         Landing {
-            regs: with_held(regs, mode, number, value),
-            next,
+            regs: with_held(to.regs, mode, number, value),
+            ..to
         }
     }
 }
@@ -89,10 +80,12 @@ fn load_to(to: Landing, mode: u32, number: u32, value: u32) -> Landing
 pub(crate) fn transfers(count: u32) -> usize
     ensures { result ≡ min count 16 }
 {
-    if count < 16 { count as usize } else { 16 }
+    count.min(16) as usize
 }
 
 // The registers loaded in transfer order.
+// Kept: the values are the sixteen words that C hands in (knucklepin_a32_finish), beside their numbers and count.
+#[tactic(auto, using(crate::proofs::Loaded::one_loaded), unfolding(crate::specs::Landing::loaded_first))]
 pub fn landed(
     regs: [u32; 31],
     mode: u32,
@@ -104,15 +97,9 @@ pub fn landed(
 ) -> Landing
     ensures { result ≡ landed regs mode big shape numbers values count }
 {
-    let mut to = Landing {
-        regs,
-        next: Next::After,
-    };
-    let n = transfers(count);
-    let mut i: usize = 0;
-    while i < n {
+    let mut to = Landing { regs, branch: None };
+    for i in 0..transfers(count) {
         to = load_to(to, mode, numbers[i], arrived(shape, big, values[i]));
-        i += 1;
     }
     to
 }

@@ -6,5 +6,5 @@ mod landing;
 mod shape;
 
 pub use giving::{addresses, given};
-pub use landing::{Landing, Next, landed, written_back};
+pub use landing::{Landing, landed, written_back};
 pub use shape::{Shape, shape_of};

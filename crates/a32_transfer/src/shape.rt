@@ -40,18 +40,9 @@ pub fn shape_of(f: Fields) -> Shape
     ensures { result ≡ shape_of f }
 {
     match f {
-        Fields::Immediate(r) => {
-            let transfer = r.transfer;
-            transfer_shape(transfer)
-        }
-        Fields::Register(r) => {
-            let transfer = r.transfer;
-            transfer_shape(transfer)
-        }
-        Fields::Literal(r) => {
-            let transfer = r.transfer;
-            transfer_shape(transfer)
-        }
+        Fields::Immediate(r) => transfer_shape(r.transfer),
+        Fields::Register(r) => transfer_shape(r.transfer),
+        Fields::Literal(r) => transfer_shape(r.transfer),
         Fields::Multiple(r) => moves(r.load, 2, false),
     }
 }

@@ -10,6 +10,7 @@ use a32_fields::{Fields, Immediate, Literal, Multiple, Register, Transfer};
 use a32_transfer::{Shape, shape_of};
 use signed::sum;
 
+// Kept: the numbers are the C interface's, and a cast of the enum would tie them to the order of its lines.
 fn transfer_number(transfer: Transfer) -> u32
     ensures { result ≡ transfer_number transfer }
 {
@@ -32,18 +33,9 @@ pub fn form_number(f: Fields) -> u32
     ensures { result ≡ form_number f }
 {
     match f {
-        Fields::Immediate(r) => {
-            let transfer = r.transfer;
-            transfer_number(transfer)
-        }
-        Fields::Register(r) => {
-            let transfer = r.transfer;
-            16 + transfer_number(transfer)
-        }
-        Fields::Literal(r) => {
-            let transfer = r.transfer;
-            32 + transfer_number(transfer)
-        }
+        Fields::Immediate(r) => transfer_number(r.transfer),
+        Fields::Register(r) => 16 + transfer_number(r.transfer),
+        Fields::Literal(r) => 32 + transfer_number(r.transfer),
         Fields::Multiple(r) => { if r.load { 49 } else { 48 } }
     }
 }
@@ -97,31 +89,17 @@ fn shape_words(shape: Shape) -> [u32; 3]
 }
 
 // The form, its fields, what the instruction moves, the number of its registers, the first address, and the change of the base modulo 2^32.
+#[tactic(auto, unfolding(crate::specs::Words::access_words))]
 pub fn access_words(access: Access) -> [u32; 16]
     ensures { result ≡ access_words access }
 {
     let f = access.fields;
-    let change = access.change;
-    let form = form_number(f);
-    let w = fields_after(f);
-    let moved = shape_words(shape_of(f));
-    let added = sum(0, change);
-    [
-        form,
-        w[0],
-        w[1],
-        w[2],
-        w[3],
-        w[4],
-        w[5],
-        w[6],
-        w[7],
-        w[8],
-        moved[0],
-        moved[1],
-        moved[2],
-        access.count,
-        access.address,
-        added,
-    ]
+    let mut words = [0u32; 16];
+    words[0] = form_number(f);
+    words[1..10].copy_from_slice(&fields_after(f));
+    words[10..13].copy_from_slice(&shape_words(shape_of(f)));
+    words[13] = access.count;
+    words[14] = access.address;
+    words[15] = sum(0, access.change);
+    words
 }

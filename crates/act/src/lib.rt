@@ -2,17 +2,16 @@
 #![tactic(auto)]
 
 ghost use Rattle.std.specs.Prelude.{◌≡◌};
-ghost use Rattle.act.specs.declared.Outcome.{Outcome};
 ghost use Rattle.act.specs.Acting.{Acting, outcome_number};
 
 use delivery::deliver;
 use exception::Guest;
-use guest::{Injection, inject};
+use guest::{Injection, InjectionRefusal, inject};
 use pending::Queue;
 use record::Record;
-use resume::resume;
+use resume::{ReturnRefusal, resume};
 use signed::Signed;
-use step::step_over;
+use step::{OnwardRefusal, step_over};
 
 #[derive(Clone, Copy)]
 pub enum Action {
@@ -27,12 +26,12 @@ pub enum Action {
 // What each action answers.
 #[derive(Clone, Copy)]
 pub enum Outcome {
-    Injected(guest::Answer),
+    Injected(Result<(), InjectionRefusal>),
     Delivered(delivery::Outcome),
-    Resumed(resume::Answer),
-    SteppedOver(step::Answer),
-    Finished(device::Answer),
-    Coprocessor(coprocessor::Answer),
+    Resumed(Result<(), ReturnRefusal>),
+    SteppedOver(Result<(), OnwardRefusal>),
+    Finished(Result<device::Moved, OnwardRefusal>),
+    Coprocessor(Result<coprocessor::Moved, OnwardRefusal>),
 }
 
 #[derive(Clone, Copy)]
@@ -41,61 +40,54 @@ pub struct Acted {
     pub state: Guest,
 }
 
-fn both(outcome: Outcome, state: Guest) -> Acted
-    ensures { result ≡ record { outcome = outcome; state = state } }
-{
-    Acted { outcome, state }
-}
-
 // The answer and the state are those of the action's own call.
 pub fn act(state: Guest, action: Action) -> Acted
     ensures { Acting state action result }
 {
     match action {
         Action::Inject(what) => {
-            let x = inject(state, what);
-            let answer = x.answer;
-            let after = x.state;
-            both(Outcome::Injected(answer), after)
+            let injected = inject(state, what);
+            Acted {
+                outcome: Outcome::Injected(injected.answer),
+                state: injected.state,
+            }
         }
         Action::Deliver(queue) => {
-            let x = deliver(queue, state);
-            let answer = x.outcome;
-            let after = x.state;
-            both(Outcome::Delivered(answer), after)
+            let delivered = deliver(queue, state);
+            Acted {
+                outcome: Outcome::Delivered(delivered.outcome),
+                state: delivered.state,
+            }
         }
         Action::Resume(correction) => {
-            let x = resume(state, correction);
-            let answer = x.answer;
-            let after = x.state;
-            both(Outcome::Resumed(answer), after)
+            let resumed = resume(state, correction);
+            Acted {
+                outcome: Outcome::Resumed(resumed.answer),
+                state: resumed.state,
+            }
         }
         Action::StepOver(what) => {
-            let x = step_over(state, what);
-            let answer = x.answer;
-            let after = x.state;
-            both(Outcome::SteppedOver(answer), after)
+            let stepped = step_over(state, what);
+            Acted {
+                outcome: Outcome::SteppedOver(stepped.answer),
+                state: stepped.state,
+            }
         }
         Action::Finish(what, value) => {
-            let x = device::finish(state, what, value);
-            let answer = x.answer;
-            let after = x.state;
-            both(Outcome::Finished(answer), after)
+            let finished = device::finish(state, what, value);
+            Acted {
+                outcome: Outcome::Finished(finished.answer),
+                state: finished.state,
+            }
         }
         Action::Coprocessor(what, first, second) => {
-            let x = coprocessor::finish(state, what, first, second);
-            let answer = x.answer;
-            let after = x.state;
-            both(Outcome::Coprocessor(answer), after)
+            let finished = coprocessor::finish(state, what, first, second);
+            Acted {
+                outcome: Outcome::Coprocessor(finished.answer),
+                state: finished.state,
+            }
         }
     }
-}
-
-fn delivered(outcome: delivery::Outcome) -> u32
-    ensures { result ≡ outcome_number (Outcome.Delivered outcome) }
-{
-    let answer = outcome.answer;
-    delivery::number(answer)
 }
 
 // The number of any answer.
@@ -104,7 +96,7 @@ pub fn number(outcome: Outcome) -> u32
 {
     match outcome {
         Outcome::Injected(answer) => guest::number(answer),
-        Outcome::Delivered(outcome) => delivered(outcome),
+        Outcome::Delivered(delivered) => delivery::number(delivered.answer),
         Outcome::Resumed(answer) => resume::number(answer),
         Outcome::SteppedOver(answer) => step::number(answer),
         Outcome::Finished(answer) => device::number(answer),

@@ -1,5 +1,5 @@
 -- Which address registers count (01, 'Addresses of an abort'). A register counts when the address it gives is known.
-use Rattle.std.specs.Prelude.{ℕ, Bool, true, false, not, ◌&&◌, ◌||◌, leb, eqb}
+use Rattle.std.specs.Prelude.{ℕ, Bool, true, false, not, ◌&&◌, ◌||◌, leb, eqb, Option, Some, None}
 use Rattle.bits.specs.Test.{between}
 use Rattle.record.specs.declared.kinds.Addresses.{Addresses}
 
@@ -12,13 +12,13 @@ abbrev pub intermediate_known : Bool → ℕ → Bool
 intermediate_known s1ptw code = leb code 0x0B || eqb code 0x29 || eqb code 0x2B || between 0x0C 0x0F code && s1ptw
 
 -- the virtual address is FAR: of an abort where it is known, and of classes 0x22 and, since C-20, 0x34 always
-abbrev pub far_counts : Addresses → Bool
-far_counts Addresses.None = false
-far_counts Addresses.Virtual = true
-far_counts (Addresses.Abort fnv s1ptw code) = virtual_known fnv code
+abbrev pub far_counts : Option Addresses → Bool
+far_counts None = false
+far_counts (Some Addresses.Virtual) = true
+far_counts (Some (Addresses.Abort fnv s1ptw code)) = virtual_known fnv code
 
 -- the intermediate address is an abort's alone
-abbrev pub hpfar_counts : Addresses → Bool
-hpfar_counts Addresses.None = false
-hpfar_counts Addresses.Virtual = false
-hpfar_counts (Addresses.Abort fnv s1ptw code) = intermediate_known s1ptw code
+abbrev pub hpfar_counts : Option Addresses → Bool
+hpfar_counts None = false
+hpfar_counts (Some Addresses.Virtual) = false
+hpfar_counts (Some (Addresses.Abort fnv s1ptw code)) = intermediate_known s1ptw code

@@ -12,16 +12,9 @@ use bits::field;
 use record::{Addresses, Origin};
 use registers::{Far, Hpfar};
 
-#[derive(Clone, Copy)]
-pub enum VirtualAddress {
-    Known(u64),
-    Unknown,
-}
-
-// The intermediate physical address of an abort: none, the page alone, or the byte.
+// The intermediate physical address of an abort, where it has one: the page alone, or the byte.
 #[derive(Clone, Copy)]
 pub enum IntermediateAddress {
-    None,
     Page(u64),
     Byte(u64),
 }
@@ -37,36 +30,32 @@ fn virtual_known(fnv: bool, code: u32) -> bool
 fn intermediate_known(s1ptw: bool, code: u32) -> bool
     ensures { result ≡ intermediate_known s1ptw code }
 {
-    (code <= 0x0B) | (code == 0x29) | (code == 0x2B) | (0x0C <= code) & (code <= 0x0F) & s1ptw
+    match code {
+        0x00..=0x0B | 0x29 | 0x2B => true,
+        0x0C..=0x0F => s1ptw,
+        _ => false,
+    }
 }
 
 // Whether FAR gives an address that is known.
-pub fn far_counts(a: Addresses) -> bool
+pub fn far_counts(a: Option<Addresses>) -> bool
     ensures { result ≡ far_counts a }
 {
     match a {
-        Addresses::None => false,
-        Addresses::Virtual => true,
-        Addresses::Abort {
-            fnv,
-            s1ptw: _,
-            code,
-        } => virtual_known(fnv, code),
+        None => false,
+        Some(Addresses::Virtual) => true,
+        Some(Addresses::Abort { fnv, code, .. }) => virtual_known(fnv, code),
     }
 }
 
 // Whether HPFAR gives an address that is known.
-pub fn hpfar_counts(a: Addresses) -> bool
+pub fn hpfar_counts(a: Option<Addresses>) -> bool
     ensures { result ≡ hpfar_counts a }
 {
     match a {
-        Addresses::None => false,
-        Addresses::Virtual => false,
-        Addresses::Abort {
-            fnv: _,
-            s1ptw,
-            code,
-        } => intermediate_known(s1ptw, code),
+        None => false,
+        Some(Addresses::Virtual) => false,
+        Some(Addresses::Abort { s1ptw, code, .. }) => intermediate_known(s1ptw, code),
     }
 }
 
@@ -93,14 +82,10 @@ pub fn far_rule(origin: Origin, far: Far) -> bool
 }
 
 // FAR, where it counts.
-pub fn virtual_address(a: Addresses, far: Far) -> VirtualAddress
+pub fn virtual_address(a: Option<Addresses>, far: Far) -> Option<u64>
     ensures { result ≡ virtual_of a far }
 {
-    if far_counts(a) {
-        VirtualAddress::Known(far.0)
-    } else {
-        VirtualAddress::Unknown
-    }
+    if far_counts(a) { Some(far.0) } else { None }
 }
 
 // The address of the page in HPFAR. Whatever the edition: its rule on the other bits is `hpfar_rule`.
@@ -111,30 +96,30 @@ fn page_address(hpfar: Hpfar) -> u64
 }
 
 // An abort's: the page, with FAR bits 11:0 unless the fault was on a stage 1 table walk, where FAR isn't the walked address.
-fn abort_intermediate(s1ptw: bool, code: u32, far: Far, hpfar: Hpfar) -> IntermediateAddress
+fn abort_intermediate(s1ptw: bool, code: u32, far: Far, hpfar: Hpfar) -> Option<IntermediateAddress>
     ensures { result ≡ abort_intermediate s1ptw code far hpfar }
 {
     if !intermediate_known(s1ptw, code) {
-        return IntermediateAddress::None;
+        return None;
     }
     let page = page_address(hpfar);
     if s1ptw {
-        IntermediateAddress::Page(page)
+        Some(IntermediateAddress::Page(page))
     } else {
-        IntermediateAddress::Byte(page + field(far.0, 11, 0))
+        Some(IntermediateAddress::Byte(page + field(far.0, 11, 0)))
     }
 }
 
-pub fn intermediate_address(a: Addresses, far: Far, hpfar: Hpfar) -> IntermediateAddress
+pub fn intermediate_address(
+    a: Option<Addresses>,
+    far: Far,
+    hpfar: Hpfar,
+) -> Option<IntermediateAddress>
     ensures { result ≡ intermediate_of a far hpfar }
 {
     match a {
-        Addresses::None => IntermediateAddress::None,
-        Addresses::Virtual => IntermediateAddress::None,
-        Addresses::Abort {
-            fnv: _,
-            s1ptw,
-            code,
-        } => abort_intermediate(s1ptw, code, far, hpfar),
+        None => None,
+        Some(Addresses::Virtual) => None,
+        Some(Addresses::Abort { s1ptw, code, .. }) => abort_intermediate(s1ptw, code, far, hpfar),
     }
 }

@@ -9,12 +9,11 @@ ghost use Rattle.bits.specs.Field.{width_of, field_of, bit_of, digit, placed_of}
 fn width(high: u32, low: u32) -> u64
     ensures { result ≡ width_of high low }
 {
-    let end = high as u64 + 1;
-    let start = low as u64;
-    if start <= end { end - start } else { 0 }
+    (high as u64 + 1).saturating_sub(low as u64)
 }
 
 // The lowest `width` bits of a value.
+#[tactic(auto, using(crate::proofs::Powers::cut_wide))]
 fn cut(value: u64, width: u64) -> u64
     ensures { result ≡ value % 2 ^ width }
 {
@@ -26,6 +25,7 @@ fn cut(value: u64, width: u64) -> u64
 }
 
 // Bits high:low of a word.
+#[tactic(auto, using(crate::proofs::Powers::field_out))]
 pub fn field(word: u64, high: u32, low: u32) -> u64
     ensures { result ≡ field_of word high low }
 {
@@ -36,25 +36,20 @@ pub fn field(word: u64, high: u32, low: u32) -> u64
     }
 }
 
-// The smaller of two numbers.
-fn least(a: u32, b: u32) -> u32
-    ensures { result ≡ min a b }
-{
-    if a < b { a } else { b }
-}
-
 // Bits high:low of a word, of which only the lowest 32 count, as a u32.
+#[tactic(auto, using(crate::proofs::Powers::field_out))]
 pub fn field32(word: u64, high: u32, low: u32) -> u32
     ensures { result ≡ field_of word (min high (low + 31)) low }
 {
     if low < 64 {
-        field(word, least(high, low + 31), low) as u32
+        field(word, high.min(low + 31), low) as u32
     } else {
         0
     }
 }
 
 // Whether one bit of a word is 1.
+#[tactic(auto, using(crate::proofs::Powers::field_out))]
 pub fn bit(word: u64, at: u32) -> bool
     ensures { result ≡ bit_of word at }
 {
@@ -66,6 +61,7 @@ pub fn bit(word: u64, at: u32) -> bool
 }
 
 // A value cut to bits high:low of a word, all other bits 0.
+#[tactic(auto, using(crate::proofs::Powers::shifted_over))]
 pub fn place(value: u32, high: u32, low: u32) -> u64
     ensures { result ≡ placed_of value high low }
 {

@@ -1,40 +1,39 @@
 -- A worked case (01, 'Cases from both sides of the line'), and what it says. What a case leaves open holds for every value of it; its
 -- traps are from AArch32.
-use Rattle.std.specs.Prelude.{◌≡◌, true, List, [], ◌∷◌, ℕ, ◌<◌, pos, length, get_or}
+use Rattle.std.specs.Prelude.{◌≡◌, true, List, [], ◌∷◌, ℕ, ◌<◌, pos, length, get_or, Result, Ok, Err}
 use Rattle.edition.specs.Feature.{editions}
 use Rattle.edition.specs.Judge.{refusal_number, refusal_mask, refusal_count}
 use Rattle.edition.specs.declared.Refusal.{Refusal}
 use Rattle.record.specs.declared.origin.Origin.{Origin}
 use Rattle.record.specs.declared.kinds.Record.{Record}
 use Rattle.syndrome.specs.Reading.{read_of}
-use Rattle.syndrome.specs.declared.answer.Read.{Read}
 use Rattle.status.specs.Base.{unmarked}
 use Rattle.guest.specs.Inject.{injected}
 use Rattle.signed.specs.Signed.{sum_of}
 use Rattle.guest.specs.Injection.{injection_row}
 use Rattle.exception.specs.Vector.{aligned}
 use Rattle.guest.specs.Tests.{writable, domain_fits, address_fits}
-use Rattle.guest.specs.declared.answer.Answer.TheVariants.{Accepted}
 use Rattle.guest.specs.declared.injection.Injection.{Injection}
 use Rattle.guest.specs.declared.injection.Injection.TheVariants.{UndefinedAt, DataAbort}
 use Rattle.guest.specs.declared.injection.Access.{Access}
 use Rattle.exception.specs.declared.state.Guest.{Guest}
 
 -- what reading answers: a record, some record, or a refusal by its number, mask and number of ones
+-- Kept: of three sorts of answer one names no record, which neither Option nor Result says.
 pub data Answers : Type 0 where
   record_read : Record → Answers
   taken : Answers
   refused : ℕ → ℕ → ℕ → Answers
 
-abbrev pub AnswersAs : Read → Answers → Type 0
-AnswersAs read (record_read r) = read ≡ Read.Taken r
-AnswersAs read taken = (r : Record) × (read ≡ Read.Taken r)
+abbrev pub AnswersAs : Result Record Refusal → Answers → Type 0
+AnswersAs read (record_read r) = read ≡ Ok r
+AnswersAs read taken = (r : Record) × (read ≡ Ok r)
 AnswersAs read (refused number mask count) =
-    (f : Refusal) × (read ≡ Read.Refused f) × (refusal_number f ≡ number) × (refusal_mask f ≡ mask) × (refusal_count f ≡ count)
+    (f : Refusal) × (read ≡ Err f) × (refusal_number f ≡ number) × (refusal_mask f ≡ mask) × (refusal_count f ≡ count)
 
 -- an injection that is taken leaves this status word, link and PC
 pub record Leaves (s : Guest) (i : Injection) (status link pc : ℕ) : Type 0 where
-  pub answer : (injected s i).answer ≡ Accepted
+  pub answer : (injected s i).answer ≡ Ok tt
   pub new_status : (injected s i).state.status ≡ status
   pub new_link : get_or (injected s i).state.regs (injection_row i).link 0 ≡ link
   pub new_pc : (injected s i).state.pc ≡ pc

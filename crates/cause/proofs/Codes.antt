@@ -6,12 +6,12 @@ use mathlib.Core.Bool.{Bool, true, false, not, ◌&&◌, ◌||◌}
 use Prim.Native.Nat.{ℕ, ◌<◌}
 use lib.Dec.{eqb}
 use borrow.Author.Tests.{eqb-true}
+use Rattle.std.specs.Prelude.{Option, Some, None}
 use Rattle.bits.proofs.Every.{below}
 use Rattle.edition.specs.Mask.{mask_of}
 use Rattle.iss.specs.Rule.{mmu_fault}
 use Rattle.fault.specs.declared.Fault.{Fault}
 use Rattle.fault.specs.Fault.{fault_row, code_in, by_level}
-use Rattle.cause.specs.declared.pass.PassedOn.{PassedOn}
 use Rattle.cause.specs.Kind.{kind_of, level_of, cause_at}
 use Rattle.cause.specs.Pass.{passed_on}
 use Rattle.cause.specs.Table.{is_mmu, is_exclusive, is_had, injected, AllPass}
@@ -33,18 +33,18 @@ last_code code h = below (λ c. is_had c && is_exclusive (kind_of c)) (λ c. eqb
 -- ---- what is passed on
 
 -- a fault's STATUS is a code, where there is a fault
-abbrev told : PassedOn → ℕ → Bool
-told (PassedOn.Fault f) code = eqb (code_in (fault_row f).long) code
-told PassedOn.Nothing code = true
+abbrev told : Option Fault → ℕ → Bool
+told (Some f) code = eqb (code_in (fault_row f).long) code
+told None code = true
 
-told_fault : (code : ℕ) {p : PassedOn} {f : Fault} {b : Bool} → b ≡ true → p ≡ PassedOn.Fault f → (not b || told p code) ≡ true
+told_fault : (code : ℕ) {p : Option Fault} {f : Fault} {b : Bool} → b ≡ true → p ≡ Some f → (not b || told p code) ≡ true
     → code_in (fault_row f).long ≡ code
 told_fault code {p} {f} had e t =
     eqb-true (code_in (fault_row f).long) code
-    (subst (λ (q : PassedOn). told q code ≡ true) e (subst (λ (b : Bool). (not b || told p code) ≡ true) had t))
+    (subst (λ (q : Option Fault). told q code ≡ true) e (subst (λ (b : Bool). (not b || told p code) ≡ true) had t))
 
 -- THE GUEST IS TOLD what the chip told: in the long format the fault's STATUS is the trap's own code
-pub same_code : (code : ℕ) → code < 64 → is_had code ≡ true → {f : Fault} → passed_on (cause_at false code) ≡ PassedOn.Fault f
+pub same_code : (code : ℕ) → code < 64 → is_had code ≡ true → {f : Fault} → passed_on (cause_at false code) ≡ Some f
     → code_in (fault_row f).long ≡ code
 unfolding kind_of level_of by_level mask_of
 same_code code h had e =
@@ -56,5 +56,5 @@ unfolding kind_of level_of by_level
 every_fault = (refl, (refl, (refl, (refl, (refl, (refl, (refl, (refl, (refl, (refl, (refl, tt)))))))))))
 
 -- NOTHING that was on a stage 1 walk is passed on
-pub walk_stays : (code : ℕ) → passed_on (cause_at true code) ≡ PassedOn.Nothing
+pub walk_stays : (code : ℕ) → passed_on (cause_at true code) ≡ None
 walk_stays code = refl

@@ -1,5 +1,5 @@
 -- Fault codes by kind, level and walk (001, IFSC and DFSC). The laws of proofs/Codes.antt compare them with the tables that stand elsewhere.
-use Rattle.std.specs.Prelude.{ℕ, Bool, cond, ◌||◌, eqb, leb}
+use Rattle.std.specs.Prelude.{ℕ, Bool, cond, ◌||◌, eqb, leb, Option, Some, None}
 use Rattle.bits.specs.Field.{field_of}
 use Rattle.bits.specs.Test.{between}
 use Rattle.cause.specs.declared.kind.Cause.{Cause}
@@ -25,10 +25,10 @@ kind_of code =
     (cond (eqb code 0x34) Kind.Lockdown Kind.Exclusive)))))))))
 
 -- level -1 has codes of its own; of the other codes with a level it stands in bits 1:0
-unfoldable pub level_of : ℕ → Level
+unfoldable pub level_of : ℕ → Option Level
 level_of code =
-    cond (eqb code 0x13 || eqb code 0x1B || eqb code 0x29 || eqb code 0x2B) Level.Minus1
-    (cond (leb code 0x0F || between 0x14 0x17 code || between 0x1C 0x1F code) (Level.At (field_of code 1 0)) Level.None)
+    cond (eqb code 0x13 || eqb code 0x1B || eqb code 0x29 || eqb code 0x2B) (Some Level.Minus1)
+    (cond (leb code 0x0F || between 0x14 0x17 code || between 0x1C 0x1F code) (Some (Level.At (field_of code 1 0))) None)
 
 -- S1PTW, a stage 2 fault on a stage 1 walk; or an external abort or a parity error on a walk
 abbrev pub walk_of : Bool → ℕ → Bool

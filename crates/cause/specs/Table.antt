@@ -1,11 +1,10 @@
 -- Tests and lists by which the laws compare the codes with the tables that stand elsewhere (proofs/Codes.antt).
-use Rattle.std.specs.Prelude.{ℕ, ◌≡◌, Bool, true, false, not, List, [], ◌∷◌, eqb}
+use Rattle.std.specs.Prelude.{ℕ, ◌≡◌, Bool, true, false, not, List, [], ◌∷◌, eqb, Some}
 use Rattle.edition.specs.Mask.{mask_of}
 use Rattle.fault.specs.declared.Fault.{Fault}
 use Rattle.fault.specs.Fault.{fault_row, code_in}
 use Rattle.fault_code.specs.Code.{data_code}
 use Rattle.cause.specs.declared.kind.Kind.{Kind}
-use Rattle.cause.specs.declared.pass.PassedOn.{PassedOn}
 use Rattle.cause.specs.Kind.{cause_at}
 use Rattle.cause.specs.Pass.{passed_on}
 
@@ -57,4 +56,4 @@ injected =
 
 abbrev pub AllPass : List Fault → Type 0
 AllPass [] = Unit {0}
-AllPass (f ∷ fs) = (passed_on (cause_at false (code_in (fault_row f).long)) ≡ PassedOn.Fault f) × AllPass fs
+AllPass (f ∷ fs) = (passed_on (cause_at false (code_in (fault_row f).long)) ≡ Some f) × AllPass fs

@@ -24,10 +24,9 @@ pub enum Kind {
     Exclusive,
 }
 
-// The level of the lookup, where the code has one.
+// The level of a lookup.
 #[derive(Clone, Copy)]
 pub enum Level {
-    None,
     // Level -1.
     Minus1,
     At(u32),
@@ -36,7 +35,8 @@ pub enum Level {
 #[derive(Clone, Copy)]
 pub struct Cause {
     pub kind: Kind,
-    pub level: Level,
+    // Where the code has one.
+    pub level: Option<Level>,
     pub walk: bool,
 }
 
@@ -45,57 +45,38 @@ pub struct Cause {
 fn kind_of(code: u32) -> Kind
     ensures { result ≡ kind_of code }
 {
-    if (code <= 0x03) | (code == 0x29) {
-        return Kind::AddressSize;
+    match code {
+        0x00..=0x03 | 0x29 => Kind::AddressSize,
+        0x04..=0x07 | 0x2B => Kind::Translation,
+        0x08..=0x0B => Kind::AccessFlag,
+        0x0C..=0x0F => Kind::Permission,
+        0x10..=0x17 => Kind::External,
+        0x18..=0x1F => Kind::Parity,
+        0x21 => Kind::Alignment,
+        0x30 => Kind::TlbConflict,
+        0x31 => Kind::Update,
+        0x34 => Kind::Lockdown,
+        _ => Kind::Exclusive,
     }
-    if (code <= 0x07) | (code == 0x2B) {
-        return Kind::Translation;
-    }
-    if code <= 0x0B {
-        return Kind::AccessFlag;
-    }
-    if code <= 0x0F {
-        return Kind::Permission;
-    }
-    if code <= 0x17 {
-        return Kind::External;
-    }
-    if code <= 0x1F {
-        return Kind::Parity;
-    }
-    if code == 0x21 {
-        return Kind::Alignment;
-    }
-    if code == 0x30 {
-        return Kind::TlbConflict;
-    }
-    if code == 0x31 {
-        return Kind::Update;
-    }
-    if code == 0x34 {
-        return Kind::Lockdown;
-    }
-    Kind::Exclusive
 }
 
 // Level -1 has codes of its own; every other level stands in bits 1:0.
-fn level_of(code: u32) -> Level
+#[tactic(auto, unfolding(crate::specs::Kind::level_of))]
+fn level_of(code: u32) -> Option<Level>
     ensures { result ≡ level_of code }
 {
-    if (code == 0x13) | (code == 0x1B) | (code == 0x29) | (code == 0x2B) {
-        return Level::Minus1;
+    match code {
+        0x13 | 0x1B | 0x29 | 0x2B => Some(Level::Minus1),
+        0x00..=0x0F | 0x14..=0x17 | 0x1C..=0x1F => Some(Level::At(field32(code as u64, 1, 0))),
+        _ => None,
     }
-    if (code <= 0x0F) | ((0x14 <= code) & (code <= 0x17)) | ((0x1C <= code) & (code <= 0x1F)) {
-        return Level::At(field32(code as u64, 1, 0));
-    }
-    Level::None
 }
 
 // A stage 2 fault on a stage 1 walk, or a code of the walk itself.
 fn walk_of(s1ptw: bool, code: u32) -> bool
     ensures { result ≡ walk_of s1ptw code }
 {
-    s1ptw | ((0x13 <= code) & (code <= 0x17)) | ((0x1B <= code) & (code <= 0x1F))
+    s1ptw | matches!(code, 0x13..=0x17 | 0x1B..=0x1F)
 }
 
 pub(crate) fn cause_at(s1ptw: bool, code: u32) -> Cause

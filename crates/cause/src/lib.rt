@@ -6,6 +6,6 @@ mod answer;
 mod kind;
 mod pass;
 
-pub use answer::{Answer, cause_of, number};
+pub use answer::{CauseRefusal, cause_of, number};
 pub use kind::{Cause, Kind, Level};
-pub use pass::{PassedOn, passed_on};
+pub use pass::passed_on;

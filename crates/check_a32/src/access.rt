@@ -1,8 +1,8 @@
 // `access WORD STATE`: a32::describe.
 use super::fields::with_fields;
-use a32::{Answer, Described};
+use a32::Described;
 use a32_access::Access;
-use rows::{Reply, Row, state, with, with_sixteen};
+use rows::{Reply, Row, with, with_sixteen};
 use signed::Signed;
 use state_words::state_of;
 use std::num::wrapping_sub_u64;
@@ -30,8 +30,8 @@ fn shown(done: Described) -> Reply {
     let answer = done.answer;
     let registers = done.registers;
     match answer {
-        Answer::Taken(a) => with_access(rows::one(0), a, registers),
-        refusal => rows::refused(rows::no_row(), a32::number(refusal), 0, 0),
+        Ok(a) => with_access(rows::one(0), a, registers),
+        Err(_) => rows::refused(rows::no_row(), a32::number(answer), 0, 0),
     }
 }
 
@@ -39,5 +39,5 @@ pub fn answer(row: Row) -> Reply {
     if !rows::is_words(row, 49) {
         return rows::no_row();
     }
-    shown(a32::describe(state_of(state(row, 1)), rows::word(row, 0)))
+    shown(a32::describe(state_of(rows::words(row, 1)), rows::word(row, 0)))
 }

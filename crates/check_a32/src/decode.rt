@@ -1,12 +1,12 @@
 // `decode WORD`: a32_rule::decode.
 use super::fields::with_fields;
-use a32_rule::Decoded;
+use a32_fields::Fields;
 use rows::{Reply, Row};
 
-fn shown(answer: Decoded) -> Reply {
+fn shown(answer: Option<Fields>) -> Reply {
     match answer {
-        Decoded::Taken(f) => with_fields(rows::one(0), f),
-        Decoded::Refused => rows::refused(rows::no_row(), 19, 0, 0),
+        Some(f) => with_fields(rows::one(0), f),
+        None => rows::refused(rows::no_row(), 19, 0, 0),
     }
 }
 

@@ -2,13 +2,6 @@
 use a32_fields::{Fields, Immediate, Literal, Multiple, Register, Transfer};
 use rows::{Reply, Row, is_words, with, word};
 
-// A row's fields, or that it has none.
-#[derive(Clone, Copy)]
-pub enum Given {
-    Fields(Fields),
-    None,
-}
-
 fn transfer(number: u32) -> Transfer {
     match number {
         0 => Transfer::Ldr,
@@ -57,11 +50,11 @@ fn are_flags(row: Row) -> bool {
     is_flag(row, 3) & is_flag(row, 4) & is_flag(row, 5)
 }
 
-fn immediate(row: Row) -> Given {
+fn immediate(row: Row) -> Option<Fields> {
     if !(is_words(row, 9) & is_transfer(row) & are_flags(row)) {
-        return Given::None;
+        return None;
     }
-    Given::Fields(Fields::Immediate(Immediate {
+    Some(Fields::Immediate(Immediate {
         transfer: transfer(word(row, 1)),
         cond: word(row, 2),
         p: flag(row, 3),
@@ -73,11 +66,11 @@ fn immediate(row: Row) -> Given {
     }))
 }
 
-fn register(row: Row) -> Given {
+fn register(row: Row) -> Option<Fields> {
     if !(is_words(row, 9) & is_transfer(row) & are_flags(row)) {
-        return Given::None;
+        return None;
     }
-    Given::Fields(Fields::Register(Register {
+    Some(Fields::Register(Register {
         transfer: transfer(word(row, 1)),
         cond: word(row, 2),
         p: flag(row, 3),
@@ -89,11 +82,11 @@ fn register(row: Row) -> Given {
     }))
 }
 
-fn literal(row: Row) -> Given {
+fn literal(row: Row) -> Option<Fields> {
     if !(is_words(row, 6) & is_transfer(row) & is_flag(row, 3)) {
-        return Given::None;
+        return None;
     }
-    Given::Fields(Fields::Literal(Literal {
+    Some(Fields::Literal(Literal {
         transfer: transfer(word(row, 1)),
         cond: word(row, 2),
         u: flag(row, 3),
@@ -102,11 +95,11 @@ fn literal(row: Row) -> Given {
     }))
 }
 
-fn multiple(row: Row) -> Given {
+fn multiple(row: Row) -> Option<Fields> {
     if !(is_words(row, 8) & is_flag(row, 1) & are_flags(row)) {
-        return Given::None;
+        return None;
     }
-    Given::Fields(Fields::Multiple(Multiple {
+    Some(Fields::Multiple(Multiple {
         load: flag(row, 1),
         cond: word(row, 2),
         p: flag(row, 3),
@@ -117,13 +110,14 @@ fn multiple(row: Row) -> Given {
     }))
 }
 
-pub fn from_row(row: Row) -> Given {
+// A row's fields, or that it has none.
+pub fn from_row(row: Row) -> Option<Fields> {
     match rows::long(row, 0) {
         0 => immediate(row),
         1 => register(row),
         2 => literal(row),
         3 => multiple(row),
-        _ => Given::None,
+        _ => None,
     }
 }
 

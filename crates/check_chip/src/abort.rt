@@ -1,8 +1,8 @@
 // `cause ORIGIN RECORD`: cause::cause_of, and whether cause::passed_on has a fault.
-use cause::{Answer, Cause, Kind, Level, PassedOn};
+use cause::{Cause, Kind, Level};
 use esr_calls::origin_of;
 use record_of_words::record_of;
-use rows::{Reply, Row, one, sixteen, with, word};
+use rows::{Reply, Row, one, with, word};
 
 fn kind_number(kind: Kind) -> u64 {
     match kind {
@@ -20,19 +20,16 @@ fn kind_number(kind: Kind) -> u64 {
     }
 }
 
-fn level_number(level: Level) -> u64 {
+fn level_number(level: Option<Level>) -> u64 {
     match level {
-        Level::None => 4,
-        Level::Minus1 => 0xFFFF_FFFF,
-        Level::At(n) => n as u64,
+        None => 4,
+        Some(Level::Minus1) => 0xFFFF_FFFF,
+        Some(Level::At(n)) => n as u64,
     }
 }
 
 fn passes(cause: Cause) -> u64 {
-    match cause::passed_on(cause) {
-        PassedOn::Fault(_) => 1,
-        PassedOn::Nothing => 0,
-    }
+    cause::passed_on(cause).is_some() as u64
 }
 
 fn shown(cause: Cause) -> Reply {
@@ -46,9 +43,9 @@ pub fn answer(row: Row) -> Reply {
     if !rows::is_words(row, 17) {
         return rows::no_row();
     }
-    let answer = cause::cause_of(origin_of(word(row, 0)), record_of(sixteen(row, 1)));
+    let answer = cause::cause_of(origin_of(word(row, 0)), record_of(rows::words(row, 1)));
     match answer {
-        Answer::Caused(cause) => shown(cause),
-        _ => rows::refused(rows::no_row(), cause::number(answer), 0, 0),
+        Ok(cause) => shown(cause),
+        Err(_) => rows::refused(rows::no_row(), cause::number(answer), 0, 0),
     }
 }

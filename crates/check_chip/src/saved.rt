@@ -1,12 +1,12 @@
 // `tospsr PAN SSBS DIT WORD`: status::to_spsr.
 use rows::{Reply, Row, word};
 use state_words::is_mark;
-use status::{Marks, ToSpsr};
+use status::Marks;
 
-fn shown(answer: ToSpsr) -> Reply {
+fn shown(answer: Option<u32>) -> Reply {
     match answer {
-        ToSpsr::Spsr(word) => rows::with(rows::one(0), word as u64),
-        ToSpsr::Unsound => rows::refused(rows::no_row(), 9, 0, 0),
+        Some(word) => rows::with(rows::one(0), word as u64),
+        None => rows::refused(rows::no_row(), 9, 0, 0),
     }
 }
 

@@ -11,6 +11,7 @@ fn read_full<R: Read>(input: &mut R, space: &mut [u8]) -> usize
     ensures { result ≤ length space.new }
 {
     let mut done = 0;
+    // Kept: the new form is no plainer. `read_exact` doesn't say how much it read before an end, and a `for` doesn't count by reads.
     while done < space.len() {
         match input.read(&mut space[done..]) {
             Ok(0) => break,
@@ -28,42 +29,19 @@ pub fn letter<R: Read>(input: &mut R) -> u8 {
     one[0]
 }
 
-fn joined(first: u8, second: u8, third: u8, last: u8) -> u32 {
-    first as u32 + 256 * (second as u32) + 65536 * (third as u32) + 16777216 * (last as u32)
-}
-
 // A number of four bytes, the lowest first.
 pub fn number<R: Read>(input: &mut R) -> u32 {
     let mut four = [0u8; 4];
     read_full(input, &mut four);
-    joined(four[0], four[1], four[2], four[3])
-}
-
-// A number of two bytes, the lowest first.
-fn half<R: Read>(input: &mut R) -> u16 {
-    let low = letter(input);
-    let high = letter(input);
-    low as u16 + 256 * (high as u16)
-}
-
-fn both(low: u32, high: u32) -> u64 {
-    low as u64 + 4294967296 * (high as u64)
-}
-
-fn word<R: Read>(input: &mut R) -> u64 {
-    let low = number(input);
-    let high = number(input);
-    both(low, high)
+    u32::from_le_bytes(four)
 }
 
 // Passes over so many entries, each as long as the space that is lent for it.
 fn skip<R: Read>(input: &mut R, entry: &mut [u8], entries: usize) {
-    let mut left = entries;
-    while left > 0 {
+    for _ in 0..entries {
         if read_full(input, entry) < entry.len() {
             break;
         }
-        left -= 1;
     }
 }
 
@@ -80,70 +58,44 @@ pub fn bytes<R: Read>(input: &mut R, space: &mut [u8]) -> usize {
     length
 }
 
-fn fill<R: Read>(input: &mut R, space: &mut [u64], given: usize)
-    requires { given ≤ length space.old }
-{
-    let mut i = 0;
-    while i < given {
-        space[i] = word(input);
-        i += 1;
+// A number of so many bytes, the lowest first.
+pub trait Unsigned<const N: usize>: Copy {
+    fn of(bytes: [u8; N]) -> Self;
+}
+
+impl Unsigned<2> for u16 {
+    fn of(bytes: [u8; 2]) -> u16 {
+        u16::from_le_bytes(bytes)
     }
 }
 
-fn fill_halves<R: Read>(input: &mut R, space: &mut [u16], given: usize)
-    requires { given ≤ length space.old }
-{
-    let mut i = 0;
-    while i < given {
-        space[i] = half(input);
-        i += 1;
+impl Unsigned<8> for u64 {
+    fn of(bytes: [u8; 8]) -> u64 {
+        u64::from_le_bytes(bytes)
     }
 }
 
-// The same for numbers of two bytes.
-pub fn halves<R: Read>(input: &mut R, space: &mut [u16]) -> usize {
+// The same for numbers of so many bytes.
+pub fn numbers<R: Read, T: Unsigned<N>, const N: usize>(input: &mut R, space: &mut [T]) -> usize
+    requires { N ≤ 8 }
+{
     let length = number(input) as usize;
     let given = number(input) as usize;
     if space.len() < given {
-        let mut entry = [0u8; 2];
+        let mut entry = [0u8; N];
         skip(input, &mut entry, given);
         return given;
     }
-    fill_halves(input, space, given);
-    length
-}
-
-// And for words of eight.
-pub fn words<R: Read>(input: &mut R, space: &mut [u64]) -> usize {
-    let length = number(input) as usize;
-    let given = number(input) as usize;
-    if space.len() < given {
-        let mut entry = [0u8; 8];
-        skip(input, &mut entry, given);
-        return given;
+    for i in 0..given {
+        let mut entry = [0u8; N];
+        read_full(input, &mut entry);
+        space[i] = T::of(entry);
     }
-    fill(input, space, given);
     length
 }
 
 // The first n of a buffer, or all of it where it has fewer.
-pub fn first_bytes(space: &[u8], n: usize) -> &[u8] {
-    if n <= space.len() {
-        &space[0..n]
-    } else {
-        space
-    }
-}
-
-pub fn first_halves(space: &[u16], n: usize) -> &[u16] {
-    if n <= space.len() {
-        &space[0..n]
-    } else {
-        space
-    }
-}
-
-pub fn first_words(space: &[u64], n: usize) -> &[u64] {
+pub fn first<T>(space: &[T], n: usize) -> &[T] {
     if n <= space.len() {
         &space[0..n]
     } else {

@@ -1,85 +1,77 @@
 // The answers as lines of text.
-use log_rewrite::Rewritten;
-use log_writer::Written;
+use log_rewrite::RewriteRefusal;
+use log_writer::WriteRefusal;
 use std::io::Write;
-use trap_log::{Entry, Look, Read, Section};
-
-// Writes the first bytes of a line's buffer.
-fn put<W: Write>(out: &mut W, line: &[u8], end: usize) {
-    if end <= line.len() {
-        let _ = out.write_all(&line[0..end]);
-    }
-}
+use text::Text;
+use trap_log::{Entry, LogRefusal, Look, Section};
 
 // To a question with a list that has no room.
 pub fn no_row<W: Write>(out: &mut W) {
     let _ = out.write_all(b"no row\n");
 }
 
-pub fn read<W: Write>(out: &mut W, word: &[u8], answer: Read) {
+pub fn read<W: Write>(out: &mut W, word: &[u8], answer: Result<usize, LogRefusal>) {
     let mut line = [0u8; 80];
-    let start = text::append(&mut line, 0, word);
-    let end = log_text::read_line(&mut line, start, answer);
-    put(out, &line, end);
+    let mut text = Text::new(&mut line);
+    text.append(word);
+    log_text::read_line(&mut text, answer);
+    let _ = out.write_all(text.written());
 }
 
-fn section_text(out: &mut [u8], at: usize, section: Section) -> usize {
-    match section {
-        Section::Whole { count, end } => {
-            let word = text::append(out, at, b"whole");
-            let first = log_text::decimal_field(out, word, count as u64);
-            log_text::decimal_field(out, first, end as u64)
-        }
-        Section::None => text::append(out, at, b"none"),
-    }
+fn section_text(text: &mut Text<'_>, section: Option<Section>) {
+    let Some(section) = section else {
+        text.append(b"none");
+        return;
+    };
+    text.append(b"whole");
+    log_text::decimal_field(text, section.count as u64);
+    log_text::decimal_field(text, section.end as u64);
 }
 
-fn entry_text(out: &mut [u8], at: usize, entry: Entry) -> usize {
+fn entry_text(text: &mut Text<'_>, entry: Option<Entry>) {
     match entry {
-        Entry::Edition(edition) => {
-            let word = text::append(out, at, b" edition");
-            log_text::decimal_field(out, word, edition as u64)
+        Some(Entry::Edition(edition)) => {
+            text.append(b" edition");
+            log_text::decimal_field(text, edition as u64);
         }
-        Entry::Syndrome(esr) => {
-            let word = text::append(out, at, b" syndrome");
-            log_text::hex_field(out, word, esr.0)
+        Some(Entry::Syndrome(esr)) => {
+            text.append(b" syndrome");
+            log_text::hex_field(text, esr.0);
         }
-        Entry::Address { far, hpfar } => {
-            let word = text::append(out, at, b" address");
-            let first = log_text::hex_field(out, word, far.0);
-            log_text::hex_field(out, first, hpfar.0)
+        Some(Entry::Address { far, hpfar }) => {
+            text.append(b" address");
+            log_text::hex_field(text, far.0);
+            log_text::hex_field(text, hpfar.0);
         }
-        Entry::Injection { injection, domain } => {
-            let word = text::append(out, at, b" injection");
-            let first = log_text::decimal_field(out, word, injection as u64);
-            log_text::decimal_field(out, first, domain as u64)
+        Some(Entry::Injection { injection, domain }) => {
+            text.append(b" injection");
+            log_text::decimal_field(text, injection as u64);
+            log_text::decimal_field(text, domain as u64);
         }
-        Entry::None => text::append(out, at, b" none"),
+        None => text.append(b" none"),
     }
 }
 
 pub fn look<W: Write>(out: &mut W, found: Look) {
     let mut line = [0u8; 160];
-    let section = found.section;
-    let entry = found.entry;
-    let word = text::append(&mut line, 0, b"look ");
-    let first = section_text(&mut line, word, section);
-    let second = entry_text(&mut line, first, entry);
-    let end = text::append(&mut line, second, b"\n");
-    put(out, &line, end);
+    let mut text = Text::new(&mut line);
+    text.append(b"look ");
+    section_text(&mut text, found.section);
+    entry_text(&mut text, found.entry);
+    text.append(b"\n");
+    let _ = out.write_all(text.written());
 }
 
 // A byte, and how often it stands there in a row where that is more than once.
 fn run<W: Write>(out: &mut W, byte: u8, times: usize) {
     let mut piece = [0u8; 32];
-    let first = log_text::hex_field(&mut piece, 0, byte as u64);
-    if times == 1 {
-        put(out, &piece, first);
-    } else {
-        let star = text::append(&mut piece, first, b"*");
-        let end = text::append_decimal(&mut piece, star, times as u64);
-        put(out, &piece, end);
+    let mut text = Text::new(&mut piece);
+    log_text::hex_field(&mut text, byte as u64);
+    if times != 1 {
+        text.append(b"*");
+        text.append_decimal(times as u64);
     }
+    let _ = out.write_all(text.written());
 }
 
 // Whether the byte before a place is the last of its run.
@@ -95,13 +87,10 @@ fn ends_at(bytes: &[u8], at: usize) -> bool {
 
 fn runs<W: Write>(out: &mut W, bytes: &[u8]) {
     let mut start = 0;
-    let mut i = 0;
-    while i < bytes.len() {
-        let byte = bytes[i];
-        i += 1;
-        if ends_at(bytes, i) {
-            run(out, byte, i - start);
-            start = i;
+    for (i, byte) in bytes.iter().enumerate() {
+        if ends_at(bytes, i + 1) {
+            run(out, *byte, i + 1 - start);
+            start = i + 1;
         }
     }
 }
@@ -112,38 +101,41 @@ fn buffer<W: Write>(out: &mut W, bytes: &[u8]) {
     let _ = out.write_all(b"\n");
 }
 
-pub fn written<W: Write>(out: &mut W, answer: Written, bytes: &[u8]) {
+pub fn written<W: Write>(out: &mut W, answer: Result<usize, WriteRefusal>, bytes: &[u8]) {
     let mut line = [0u8; 80];
-    let word = text::append(&mut line, 0, b"write");
-    let number = log_text::decimal_field(&mut line, word, log_writer::number(answer) as u64);
-    let end = log_text::decimal_field(&mut line, number, log_writer::length_in(answer) as u64);
-    put(out, &line, end);
+    let mut text = Text::new(&mut line);
+    text.append(b"write");
+    log_text::decimal_field(&mut text, log_writer::number(answer) as u64);
+    log_text::decimal_field(&mut text, log_writer::length_in(answer) as u64);
+    let _ = out.write_all(text.written());
     buffer(out, bytes);
 }
 
 // The number, the section of refusal 13, and the length.
 fn again_line<W: Write>(out: &mut W, number: u32, section: u32, length: usize) {
     let mut line = [0u8; 80];
-    let word = text::append(&mut line, 0, b"again");
-    let first = log_text::decimal_field(&mut line, word, number as u64);
-    let second = log_text::decimal_field(&mut line, first, section as u64);
-    let end = log_text::decimal_field(&mut line, second, length as u64);
-    put(out, &line, end);
+    let mut text = Text::new(&mut line);
+    text.append(b"again");
+    log_text::decimal_field(&mut text, number as u64);
+    log_text::decimal_field(&mut text, section as u64);
+    log_text::decimal_field(&mut text, length as u64);
+    let _ = out.write_all(text.written());
 }
 
-pub fn again<W: Write>(out: &mut W, answer: Rewritten, bytes: &[u8]) {
+pub fn again<W: Write>(out: &mut W, answer: Result<usize, RewriteRefusal>, bytes: &[u8]) {
     match answer {
-        Rewritten::Unread(read) => again_line(
+        Ok(length) => again_line(out, 0, 0, length),
+        Err(RewriteRefusal::Unread(refusal)) => again_line(
             out,
-            trap_log::number(read),
-            trap_log::section_in(read),
+            trap_log::number(Err(refusal)),
+            trap_log::section_in(Err(refusal)),
             0,
         ),
-        Rewritten::Written(written) => again_line(
+        Err(RewriteRefusal::Unwritten(refusal)) => again_line(
             out,
-            log_writer::number(written),
+            log_writer::number(Err(refusal)),
             0,
-            log_writer::length_in(written),
+            0,
         ),
     }
     buffer(out, bytes);

@@ -27,7 +27,7 @@ fn read_question<R: Read, W: Write>(from: &mut R, to: &mut W) {
         lines::no_row(to);
         return;
     }
-    let log = input::first_bytes(&space, n);
+    let log = input::first(&space, n);
     lines::read(to, b"read ", trap_log::read(log));
     lines::read(to, b"held ", log_reader::read_in(log));
 }
@@ -41,7 +41,7 @@ fn look_question<R: Read, W: Write>(from: &mut R, to: &mut W) {
         lines::no_row(to);
         return;
     }
-    let log = input::first_bytes(&space, n);
+    let log = input::first(&space, n);
     lines::look(to, log_reader::look_in(log, passed, entry as usize));
 }
 
@@ -54,7 +54,7 @@ fn again_question<R: Read, W: Write>(from: &mut R, to: &mut W) {
         lines::no_row(to);
         return;
     }
-    let log = input::first_bytes(&space, n);
+    let log = input::first(&space, n);
     let out = input::front(&mut buffer, room);
     let answer = log_rewrite::rewrite(log, out);
     lines::again(to, answer, out);
@@ -68,10 +68,10 @@ fn write_question<R: Read, W: Write>(from: &mut R, to: &mut W) {
     let mut injections = [0u16; HALVES];
     let mut buffer = [UNWRITTEN; BYTES];
     let e = input::bytes(from, &mut editions);
-    let s = input::words(from, &mut syndromes);
-    let f = input::words(from, &mut fars);
-    let h = input::words(from, &mut hpfars);
-    let i = input::halves(from, &mut injections);
+    let s = input::numbers(from, &mut syndromes);
+    let f = input::numbers(from, &mut fars);
+    let h = input::numbers(from, &mut hpfars);
+    let i = input::numbers(from, &mut injections);
     let room = input::bytes(from, &mut buffer);
     if (e > BYTES) | (s > WORDS) | (f > WORDS) | (h > WORDS) | (i > HALVES) | (room > BYTES) {
         lines::no_row(to);
@@ -79,11 +79,11 @@ fn write_question<R: Read, W: Write>(from: &mut R, to: &mut W) {
     }
     let out = input::front(&mut buffer, room);
     let answer = log_rewrite::write_raw(
-        input::first_bytes(&editions, e),
-        input::first_words(&syndromes, s),
-        input::first_words(&fars, f),
-        input::first_words(&hpfars, h),
-        input::first_halves(&injections, i),
+        input::first(&editions, e),
+        input::first(&syndromes, s),
+        input::first(&fars, f),
+        input::first(&hpfars, h),
+        input::first(&injections, i),
         out,
     );
     lines::written(to, answer, out);

@@ -1,15 +1,16 @@
 // `copro FIRST SECOND STATE RECORD`: coprocessor::finish, by way of act::act.
 use act::{Acted, Action, Outcome};
-use coprocessor::Answer;
+use coprocessor::Moved;
 use record_of_words::record_of;
-use rows::{Reply, Row, one, sixteen, state, with, with_changes, word};
+use rows::{Reply, Row, one, with, with_changes, word};
 use state_words::{state_of, words_of};
+use step::OnwardRefusal;
 
 // How many registers a write hands out, and what they hold.
-fn with_given(reply: Reply, answer: Answer) -> Reply {
+fn with_given(reply: Reply, answer: Result<Moved, OnwardRefusal>) -> Reply {
     match answer {
-        Answer::Written(first) => with(with(with(reply, 1), first as u64), 0),
-        Answer::WrittenTwo(first, second) => {
+        Ok(Moved::Written(first)) => with(with(with(reply, 1), first as u64), 0),
+        Ok(Moved::WrittenTwo(first, second)) => {
             with(with(with(reply, 2), first as u64), second as u64)
         }
         _ => with(with(with(reply, 0), 0), 0),
@@ -32,8 +33,8 @@ pub fn answer(row: Row) -> Reply {
     if !rows::is_words(row, 66) {
         return rows::no_row();
     }
-    let before = state(row, 2);
-    let what = record_of(sixteen(row, 50));
+    let before = rows::words(row, 2);
+    let what = record_of(rows::words(row, 50));
     let action = Action::Coprocessor(what, word(row, 0), word(row, 1));
     shown(before, act::act(state_of(before), action))
 }

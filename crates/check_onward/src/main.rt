@@ -7,38 +7,30 @@ mod copro;
 mod perform;
 mod steps;
 
-use rows::{Reply, Row, is};
+use rows::{Calls, Reply, Row, is};
 
-fn call(row: Row) -> Reply {
-    if is(row, b"passes") {
-        return conditions::answer(row);
+struct OnwardCalls;
+
+impl Calls for OnwardCalls {
+    fn reply(&self, row: Row) -> Reply {
+        if is(row, b"passes") {
+            return conditions::answer(row);
+        }
+        if is(row, b"step") {
+            return steps::answer(row);
+        }
+        if is(row, b"copro") {
+            return copro::answer(row);
+        }
+        if is(row, b"perform") {
+            return perform::answer(row);
+        }
+        rows::no_row()
     }
-    if is(row, b"step") {
-        return steps::answer(row);
-    }
-    if is(row, b"copro") {
-        return copro::answer(row);
-    }
-    if is(row, b"perform") {
-        return perform::answer(row);
-    }
-    rows::no_row()
 }
 
-// A proved loop has to end, and nothing says that the input does: it counts up to a number that no run reaches.
 fn main(rt: HostRuntime) {
     let mut input = rt.stdin();
     let mut output = rt.stdout();
-    let mut chunk = [0u8; 512];
-    let mut reader = rows::start();
-    for _ in 0..u64::MAX {
-        reader = rows::read(&mut input, &mut chunk, reader);
-        let row = reader.row;
-        if reader.ended {
-            break;
-        }
-        if !rows::write(&mut output, call(row)) {
-            break;
-        }
-    }
+    rows::answer_all(&mut input, &mut output, &OnwardCalls);
 }

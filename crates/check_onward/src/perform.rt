@@ -1,7 +1,8 @@
 // `perform WORD VALUES STATE`: a32_finish::finish.
+use a32::InstructionRefusal;
 use a32_access::Access;
-use a32_finish::{Answer, Finished};
-use rows::{Reply, Row, one, sixteen, state, with, with_sixteen, word};
+use a32_finish::{Finished, Moved};
+use rows::{Reply, Row, one, with, with_sixteen, word};
 use state_words::{state_of, words_of};
 
 // Whether it was a store, and how many registers it transferred.
@@ -9,10 +10,10 @@ fn with_access(reply: Reply, stored: u64, access: Access) -> Reply {
     with(with(reply, stored), access.count as u64)
 }
 
-fn with_answer(reply: Reply, answer: Answer) -> Reply {
+fn with_answer(reply: Reply, answer: Result<Moved, InstructionRefusal>) -> Reply {
     match answer {
-        Answer::Loaded(access) => with_access(reply, 0, access),
-        Answer::Stored(access) => with_access(reply, 1, access),
+        Ok(Moved::Loaded(access)) => with_access(reply, 0, access),
+        Ok(Moved::Stored(access)) => with_access(reply, 1, access),
         _ => with(with(reply, 0), 0),
     }
 }
@@ -32,9 +33,9 @@ pub fn answer(row: Row) -> Reply {
     if !rows::is_words(row, 65) {
         return rows::no_row();
     }
-    let before = state(row, 17);
+    let before = rows::words(row, 17);
     shown(
         before,
-        a32_finish::finish(state_of(before), word(row, 0), sixteen(row, 1)),
+        a32_finish::finish(state_of(before), word(row, 0), rows::words(row, 1)),
     )
 }

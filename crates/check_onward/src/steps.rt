@@ -1,7 +1,7 @@
 // `step STATE RECORD`: step::step_over, by way of act::act.
 use act::{Acted, Action, Outcome};
 use record_of_words::record_of;
-use rows::{Reply, Row, one, sixteen, state, with_changes};
+use rows::{Reply, Row, one, with_changes};
 use state_words::{state_of, words_of};
 
 fn shown(before: [u32; 48], done: Acted) -> Reply {
@@ -20,7 +20,7 @@ pub fn answer(row: Row) -> Reply {
     if !rows::is_words(row, 64) {
         return rows::no_row();
     }
-    let before = state(row, 0);
-    let what = record_of(sixteen(row, 48));
+    let before = rows::words(row, 0);
+    let what = record_of(rows::words(row, 48));
     shown(before, act::act(state_of(before), Action::StepOver(what)))
 }

@@ -1,7 +1,7 @@
 // `run STATE CALL ..`: pending::raise, and by way of act::act delivery::deliver, guest::inject and resume::resume, at most 24 calls that
 // start with nothing waiting.
 use act::{Action, Outcome};
-use delivery::Answer;
+use delivery::DeliveryRefusal;
 use exception::Guest;
 use guest::Injection;
 use guest_calls::injection_of;
@@ -29,7 +29,7 @@ struct Run {
 
 fn start(row: Row) -> Run {
     Run {
-        words: rows::state(row, 0),
+        words: rows::words(row, 0),
         at: 48,
         queue: pending::empty(),
         reply: no_row(),
@@ -114,13 +114,11 @@ fn change(row: Row, run: Run) -> Run {
 // Changes up to their end. A row has room for fewer than 128.
 fn changes(row: Row, run: Run) -> Run {
     let mut next = run;
-    let mut turns: u32 = 128;
-    while turns > 0 {
+    for _ in 0..128 {
         if number(row, next, 0) == END {
             return skipped(next, 1);
         }
         next = change(row, next);
-        turns -= 1;
     }
     malformed(next)
 }
@@ -133,9 +131,9 @@ fn kind_name(kind: Kind) -> u64 {
     }
 }
 
-fn name(answer: Answer) -> u64 {
+fn name(answer: Result<Option<Kind>, DeliveryRefusal>) -> u64 {
     match answer {
-        Answer::Delivered(kind) => kind_name(kind),
+        Ok(Some(kind)) => kind_name(kind),
         _ => 0,
     }
 }
@@ -253,13 +251,11 @@ fn call(row: Row, run: Run) -> Run {
 pub fn answer(row: Row) -> Reply {
     let mut run = start(row);
     let count = rows::count(row);
-    let mut calls: u32 = 24;
-    while calls > 0 {
+    for _ in 0..24 {
         if run.at >= count {
             break;
         }
         run = call(row, run);
-        calls -= 1;
     }
     let reply = run.reply;
     if run.good & (run.at == count) {

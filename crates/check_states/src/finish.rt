@@ -1,14 +1,15 @@
 // `finish VALUE STATE RECORD`: device::finish, by way of act::act.
 use act::{Acted, Action, Outcome};
-use device::Answer;
+use device::Moved;
 use record_of_words::record_of;
-use rows::{Reply, Row, one, sixteen, state, with, with_changes, word};
+use rows::{Reply, Row, one, with, with_changes, word};
 use state_words::{state_of, words_of};
+use step::OnwardRefusal;
 
 // Whether the access is a store, and what the device gets.
-fn with_access(reply: Reply, answer: Answer) -> Reply {
+fn with_access(reply: Reply, answer: Result<Moved, OnwardRefusal>) -> Reply {
     match answer {
-        Answer::Stored(given) => with(with(reply, 1), given as u64),
+        Ok(Moved::Stored(given)) => with(with(reply, 1), given as u64),
         _ => with(with(reply, 0), 0),
     }
 }
@@ -29,8 +30,8 @@ pub fn answer(row: Row) -> Reply {
     if !rows::is_words(row, 65) {
         return rows::no_row();
     }
-    let before = state(row, 1);
-    let what = record_of(sixteen(row, 49));
+    let before = rows::words(row, 1);
+    let what = record_of(rows::words(row, 49));
     shown(
         before,
         act::act(state_of(before), Action::Finish(what, word(row, 0))),

@@ -1,11 +1,10 @@
 // `held MODE REGISTER`: status::held_in. 1 and the number, or 0 for nowhere.
 use rows::{Reply, Row, one, with, word};
-use status::Held;
 
-fn shown(answer: Held) -> Reply {
+fn shown(answer: Option<u32>) -> Reply {
     match answer {
-        Held::Register(number) => with(one(1), number as u64),
-        Held::Nowhere => one(0),
+        Some(number) => with(one(1), number as u64),
+        None => one(0),
     }
 }
 

@@ -1,7 +1,7 @@
 // `inject KIND FAULT LEVEL ADDRESS WRITE DOMAIN STATE`: guest::inject.
 use guest::{Injected, Injection};
 use guest_calls::injection_of;
-use rows::{Reply, Row, are_words, long, state, word};
+use rows::{Reply, Row, are_words, long, word};
 use state_words::{state_of, words_of};
 
 pub fn shown(before: [u32; 48], done: Injected) -> Reply {
@@ -34,6 +34,6 @@ pub fn answer(row: Row) -> Reply {
     if !is_asked(row) {
         return rows::no_row();
     }
-    let before = state(row, 6);
+    let before = rows::words(row, 6);
     shown(before, guest::inject(state_of(before), injection(row)))
 }

@@ -6,7 +6,7 @@ use super::inject::{injection, is_asked, shown};
 use exception::Guest;
 use guest::{Injected, Injection};
 use monitor::inject_in_place;
-use rows::{Reply, Row, state};
+use rows::{Reply, Row};
 use state_words::state_of;
 
 // The state is lent, and then what it has become is read.
@@ -22,6 +22,6 @@ pub fn answer(row: Row) -> Reply {
     if !is_asked(row) {
         return rows::no_row();
     }
-    let before = state(row, 6);
+    let before = rows::words(row, 6);
     shown(before, inject_lent(state_of(before), injection(row)))
 }

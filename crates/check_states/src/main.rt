@@ -9,44 +9,36 @@ mod inject;
 mod lent;
 mod spsr;
 
-use rows::{Reply, Row, is};
+use rows::{Calls, Reply, Row, is};
 
-fn call(row: Row) -> Reply {
-    if is(row, b"inject") {
-        return inject::answer(row);
+struct StateCalls;
+
+impl Calls for StateCalls {
+    fn reply(&self, row: Row) -> Reply {
+        if is(row, b"inject") {
+            return inject::answer(row);
+        }
+        if is(row, b"lent") {
+            return lent::answer(row);
+        }
+        if is(row, b"back") {
+            return back::answer(row);
+        }
+        if is(row, b"spsr") {
+            return spsr::answer(row);
+        }
+        if is(row, b"finish") {
+            return finish::answer(row);
+        }
+        if is(row, b"held") {
+            return held::answer(row);
+        }
+        rows::no_row()
     }
-    if is(row, b"lent") {
-        return lent::answer(row);
-    }
-    if is(row, b"back") {
-        return back::answer(row);
-    }
-    if is(row, b"spsr") {
-        return spsr::answer(row);
-    }
-    if is(row, b"finish") {
-        return finish::answer(row);
-    }
-    if is(row, b"held") {
-        return held::answer(row);
-    }
-    rows::no_row()
 }
 
-// A proved loop has to end, and nothing says that the input does: it counts up to a number that no run reaches.
 fn main(rt: HostRuntime) {
     let mut input = rt.stdin();
     let mut output = rt.stdout();
-    let mut chunk = [0u8; 512];
-    let mut reader = rows::start();
-    for _ in 0..u64::MAX {
-        reader = rows::read(&mut input, &mut chunk, reader);
-        let row = reader.row;
-        if reader.ended {
-            break;
-        }
-        if !rows::write(&mut output, call(row)) {
-            break;
-        }
-    }
+    rows::answer_all(&mut input, &mut output, &StateCalls);
 }

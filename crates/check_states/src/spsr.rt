@@ -1,12 +1,12 @@
 // `spsr PAN SSBS DIT WORD`: status::from_spsr.
 use rows::{Reply, Row, word};
 use state_words::is_mark;
-use status::{FromSpsr, Marks};
+use status::Marks;
 
-fn shown(answer: FromSpsr) -> Reply {
+fn shown(answer: Option<u32>) -> Reply {
     match answer {
-        FromSpsr::Status(word) => rows::with(rows::one(0), word as u64),
-        FromSpsr::Unsound => rows::refused(rows::no_row(), 9, 0, 0),
+        Some(word) => rows::with(rows::one(0), word as u64),
+        None => rows::refused(rows::no_row(), 9, 0, 0),
     }
 }
 

@@ -3,12 +3,12 @@ use super::trapped::{refused, with_trap};
 use esr_calls::origin_of;
 use registers::{Esr, Far, Hpfar};
 use rows::{Reply, Row, long, word};
-use trap::Both;
+use trap::{Trap, TrapRefusal};
 
-fn shown(answer: Both) -> Reply {
+fn shown(answer: Result<(Trap, Trap), TrapRefusal>) -> Reply {
     match answer {
-        Both::Shown(first, second) => with_trap(with_trap(rows::one(0), first), second),
-        Both::Refused(refusal) => refused(refusal),
+        Ok((first, second)) => with_trap(with_trap(rows::one(0), first), second),
+        Err(refusal) => refused(refusal),
     }
 }
 

@@ -1,5 +1,5 @@
 // `hagain EDITION WORD`: short::rewrite.
-use super::hwrite::shown;
+use super::shown;
 use registers::Hsr;
 use rows::{Reply, Row, word};
 
@@ -7,5 +7,6 @@ pub fn answer(row: Row) -> Reply {
     if !rows::is_words(row, 2) {
         return rows::no_row();
     }
-    shown(short::rewrite(word(row, 0), Hsr(word(row, 1))))
+    let written = short::rewrite(word(row, 0), Hsr(word(row, 1)));
+    shown::word(written.map(|hsr| hsr.0 as u64))
 }

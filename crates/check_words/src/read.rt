@@ -1,17 +1,9 @@
 // `read ORIGIN EDITION WORD`: syndrome::read.
-use super::refusal;
+use super::shown;
 use esr_calls::origin_of;
 use record_words::words_of;
 use registers::Esr;
-use rows::{Reply, Row, with};
-use syndrome::Read;
-
-pub fn shown(reply: Reply, answer: Read) -> Reply {
-    match answer {
-        Read::Taken(r) => rows::with_sixteen(with(reply, 0), words_of(r)),
-        Read::Refused(refusal) => refusal::shown(reply, refusal),
-    }
-}
+use rows::{Reply, Row};
 
 // Whether a row is an origin, an edition and a word.
 pub fn is_asked(row: Row) -> bool {
@@ -23,8 +15,6 @@ pub fn answer(row: Row) -> Reply {
         return rows::no_row();
     }
     let origin = origin_of(rows::word(row, 0));
-    shown(
-        rows::no_row(),
-        syndrome::read(origin, rows::word(row, 1), Esr(rows::long(row, 2))),
-    )
+    let read = syndrome::read(origin, rows::word(row, 1), Esr(rows::long(row, 2)));
+    shown::record(read.map(|r| words_of(r)))
 }

@@ -1,28 +1,28 @@
 // `trap ORIGIN EDITION ESR FAR HPFAR`: trap::read.
-use address::{IntermediateAddress, VirtualAddress};
+use address::IntermediateAddress;
 use esr_calls::origin_of;
 use record::Record;
 use record_words::words_of;
 use registers::{Esr, Far, Hpfar};
 use rows::{Reply, Row, long, with};
-use trap::{Abort, Addressed, Answer, Trap, TrapRefusal};
+use trap::{Abort, Addressed, Trap, TrapRefusal};
 
 fn with_record(reply: Reply, r: Record) -> Reply {
     rows::with_sixteen(reply, words_of(r))
 }
 
-fn with_virtual(reply: Reply, address: VirtualAddress) -> Reply {
+fn with_virtual(reply: Reply, address: Option<u64>) -> Reply {
     match address {
-        VirtualAddress::Known(known) => with(with(reply, 1), known),
-        VirtualAddress::Unknown => with(reply, 0),
+        Some(known) => with(with(reply, 1), known),
+        None => with(reply, 0),
     }
 }
 
-fn with_intermediate(reply: Reply, address: IntermediateAddress) -> Reply {
+fn with_intermediate(reply: Reply, address: Option<IntermediateAddress>) -> Reply {
     match address {
-        IntermediateAddress::None => with(reply, 0),
-        IntermediateAddress::Page(page) => with(with(reply, 1), page),
-        IntermediateAddress::Byte(byte) => with(with(reply, 2), byte),
+        None => with(reply, 0),
+        Some(IntermediateAddress::Page(page)) => with(with(reply, 1), page),
+        Some(IntermediateAddress::Byte(byte)) => with(with(reply, 2), byte),
     }
 }
 
@@ -57,10 +57,10 @@ pub fn refused(refusal: TrapRefusal) -> Reply {
     )
 }
 
-fn shown(answer: Answer) -> Reply {
+fn shown(answer: Result<Trap, TrapRefusal>) -> Reply {
     match answer {
-        Answer::Shown(t) => with_trap(rows::one(0), t),
-        Answer::Refused(refusal) => refused(refusal),
+        Ok(t) => with_trap(rows::one(0), t),
+        Err(refusal) => refused(refusal),
     }
 }
 

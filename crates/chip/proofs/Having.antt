@@ -2,9 +2,8 @@
 -- Assumes nothing.
 use mathlib.Core.Path.{◌≡◌, refl, ap}
 use mathlib.Core.Bool.{Bool, true, false, ◌||◌}
-use Prim.Native.Nat.{ℕ, ◌+◌, ◌≤◌}
+use Prim.Native.Nat.{ℕ, ◌+◌}
 use lib.Dec.{eqb, ltb}
-use native.Mathlib.Omega.{arith}
 use Rattle.bits.specs.Field.{field_of}
 use Rattle.edition.specs.Feature.{is_edition, ras, lpa2, hafdbs, lpa}
 use Rattle.chip.specs.declared.features.IdAa64pfr0.{IdAa64pfr0}
@@ -57,8 +56,3 @@ short_edition_has pfr0 = go (some_of pfr0.0 31 28)
 -- TGran4 is signed: a chip without pages of 4 KB, 0b1111, has LPA2 by its TGran16 alone
 pub no_4_kb : (mmfr0 : IdAa64mmfr0) → field_of mmfr0.0 31 28 ≡ 0b1111 → has_lpa2 mmfr0 ≡ eqb (field_of mmfr0.0 23 20) 2
 no_4_kb mmfr0 e = ap (λ (n : ℕ). eqb n 1 || eqb (field_of mmfr0.0 23 20) 2) e
-
--- what a feature counts is at most its number
-pub counted_most : (has : Bool) (n : ℕ) → counted_of has n ≤ n
-counted_most true n = omega arith
-counted_most false n = omega arith

@@ -5,6 +5,7 @@ ghost use Rattle.chip.specs.Feature.{some_of, has_lpa2, has_lpa, counted_of, edi
 use bits::field;
 use status::Marks;
 
+// Kept: registers that are alike in form stay types of their own, so that a caller can't exchange two of them.
 // ID_AA64PFR0_EL1.
 #[derive(Clone, Copy)]
 pub struct IdAa64pfr0(pub u64);
@@ -33,7 +34,7 @@ pub struct IdMmfr3(pub u64);
 fn some(word: u64, high: u32, low: u32) -> bool
     ensures { result ≡ some_of word high low }
 {
-    !(field(word, high, low) == 0)
+    field(word, high, low) != 0
 }
 
 // LPA2: TGran4 is 1, or TGran16 is 2. TGran4 is signed: 0b1111 is -1, no pages of 4 KB.
@@ -58,6 +59,7 @@ fn counted(has: bool, count: u32) -> u32
 }
 
 // The edition of a board, for a hypervisor in AArch64.
+#[tactic(auto, unfolding(crate::specs::Feature::edition_of))]
 pub fn edition_of(pfr0: IdAa64pfr0, mmfr0: IdAa64mmfr0, mmfr1: IdAa64mmfr1) -> u32
     ensures { result ≡ edition_of pfr0 mmfr0 mmfr1 }
 {

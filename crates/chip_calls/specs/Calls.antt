@@ -1,5 +1,5 @@
 -- What each call answers: the call by value on the numbers that were handed in, and what it hands out.
-use Rattle.std.specs.Prelude.{ℕ, ◌^◌, ◌-◌, ◌≡◌, List, [], ◌∷◌}
+use Rattle.std.specs.Prelude.{ℕ, ◌^◌, ◌-◌, ◌≡◌, List, [], ◌∷◌, Option, Some, None, Result, Ok, Err}
 use Rattle.record.specs.declared.kinds.Record.{Record}
 use Rattle.record.specs.declared.origin.Origin.{Origin}
 use Rattle.record_words.specs.Words.{flag}
@@ -10,10 +10,11 @@ use Rattle.chip.specs.declared.ran.Ran.{Ran}
 use Rattle.chip.specs.declared.ran.Spsr.{Spsr}
 use Rattle.cause.specs.Answer.{cause_number, cause_of}
 use Rattle.cause.specs.Pass.{passed_on}
-use Rattle.cause.specs.declared.answer.Answer.{Answer}
+use Rattle.cause.specs.declared.answer.CauseRefusal.{CauseRefusal}
+use Rattle.cause.specs.declared.kind.Cause.{Cause}
 use Rattle.cause.specs.declared.kind.Kind.{Kind}
 use Rattle.cause.specs.declared.kind.Level.{Level}
-use Rattle.cause.specs.declared.pass.PassedOn.{PassedOn}
+use Rattle.fault.specs.declared.Fault.{Fault}
 
 -- PAN, SSBS and DIT
 abbrev pub marks_in : Marks → List ℕ
@@ -51,37 +52,33 @@ kind_number Kind.Lockdown = 9
 kind_number Kind.Exclusive = 10
 
 -- 4 is none, and -1 all ones
-abbrev pub level_number : Level → ℕ
-level_number Level.None = 4
-level_number Level.Minus1 = 2 ^ 32 - 1
-level_number (Level.At n) = n
+abbrev pub level_number : Option Level → ℕ
+level_number None = 4
+level_number (Some Level.Minus1) = 2 ^ 32 - 1
+level_number (Some (Level.At n)) = n
 
-abbrev pub passes_by : PassedOn → ℕ
-passes_by (PassedOn.Fault f) = 1
-passes_by PassedOn.Nothing = 0
+abbrev pub passes_by : Option Fault → ℕ
+passes_by (Some f) = 1
+passes_by None = 0
 
 -- a refusal hands out zeros
-abbrev pub kind_in : Answer → ℕ
-kind_in (Answer.Caused c) = kind_number c.kind
-kind_in Answer.NoEdition = 0
-kind_in Answer.NoAbort = 0
+abbrev pub kind_in : Result Cause CauseRefusal → ℕ
+kind_in (Ok c) = kind_number c.kind
+kind_in (Err refusal) = 0
 
-abbrev pub level_in : Answer → ℕ
-level_in (Answer.Caused c) = level_number c.level
-level_in Answer.NoEdition = 0
-level_in Answer.NoAbort = 0
+abbrev pub level_in : Result Cause CauseRefusal → ℕ
+level_in (Ok c) = level_number c.level
+level_in (Err refusal) = 0
 
-abbrev pub walk_in : Answer → ℕ
-walk_in (Answer.Caused c) = flag c.walk
-walk_in Answer.NoEdition = 0
-walk_in Answer.NoAbort = 0
+abbrev pub walk_in : Result Cause CauseRefusal → ℕ
+walk_in (Ok c) = flag c.walk
+walk_in (Err refusal) = 0
 
-abbrev pub passes_in : Answer → ℕ
-passes_in (Answer.Caused c) = passes_by (passed_on c)
-passes_in Answer.NoEdition = 0
-passes_in Answer.NoAbort = 0
+abbrev pub passes_in : Result Cause CauseRefusal → ℕ
+passes_in (Ok c) = passes_by (passed_on c)
+passes_in (Err refusal) = 0
 
-abbrev pub cause_in : Answer → List ℕ
+abbrev pub cause_in : Result Cause CauseRefusal → List ℕ
 cause_in a = kind_in a ∷ level_in a ∷ walk_in a ∷ passes_in a ∷ []
 
 pub record Causing (origin : Origin) (r : Record) (n : ℕ) (words : List ℕ) : Type 0 where

@@ -5,10 +5,9 @@ ghost use Rattle.std.specs.Prelude.{◌≡◌, [], ◌∷◌};
 ghost use Rattle.record_of_words.specs.Reading.{record_of};
 ghost use Rattle.esr_calls.specs.Calls.{origin_of};
 ghost use Rattle.chip.specs.Feature.{edition_of, short_edition_of, marks_of};
-ghost use Rattle.chip_calls.specs.Calls.{marks_in, ran_number, origin_number, Running, kind_number, level_number, kind_in, level_in, walk_in};
-ghost use Rattle.chip_calls.specs.Calls.{passes_by, passes_in, Causing};
+ghost use Rattle.chip_calls.specs.Calls.{marks_in, ran_number, origin_number, Running, kind_number, level_number, cause_in, Causing};
 
-use cause::{Answer, Kind, Level, PassedOn};
+use cause::{Cause, CauseRefusal, Kind, Level};
 use chip::{Hcr, IdAa64mmfr0, IdAa64mmfr1, IdAa64pfr0, IdMmfr3, IdPfr0, IdPfr2, Ran, Spsr};
 use esr_calls::origin_of;
 use record::Origin;
@@ -36,6 +35,7 @@ pub fn knucklepin_marks_raw(mmfr3: u64, pfr2: u64, pfr0: u64, marks: &mut [u32; 
     *marks = [found.pan as u32, found.ssbs as u32, found.dit as u32];
 }
 
+// Kept: numbers for kinds, here and below: the C interface.
 // What ran, by number.
 fn ran_number(ran: Ran) -> u32
     ensures { result ≡ ran_number ran }
@@ -86,68 +86,28 @@ fn kind_number(kind: Kind) -> u32
 }
 
 // A level by number: 4 is none, and -1 is all ones.
-fn level_number(level: Level) -> u32
+fn level_number(level: Option<Level>) -> u32
     ensures { result ≡ level_number level }
 {
     match level {
-        Level::None => 4,
-        Level::Minus1 => 0xFFFF_FFFF,
-        Level::At(n) => n,
+        None => 4,
+        Some(Level::Minus1) => 0xFFFF_FFFF,
+        Some(Level::At(n)) => n,
     }
 }
 
-fn kind_in(answer: Answer) -> u32
-    ensures { result ≡ kind_in answer }
+// A cause's kind, its level, whether it was on a walk, and whether an injection passes it on.
+fn cause_in(answer: Result<Cause, CauseRefusal>) -> [u32; 4]
+    ensures { result ≡ cause_in answer }
 {
     match answer {
-        Answer::Caused(cause) => {
-            let kind = cause.kind;
-            kind_number(kind)
-        }
-        Answer::NoEdition => 0,
-        Answer::NoAbort => 0,
-    }
-}
-
-fn level_in(answer: Answer) -> u32
-    ensures { result ≡ level_in answer }
-{
-    match answer {
-        Answer::Caused(cause) => {
-            let level = cause.level;
-            level_number(level)
-        }
-        Answer::NoEdition => 0,
-        Answer::NoAbort => 0,
-    }
-}
-
-fn walk_in(answer: Answer) -> u32
-    ensures { result ≡ walk_in answer }
-{
-    match answer {
-        Answer::Caused(cause) => cause.walk as u32,
-        Answer::NoEdition => 0,
-        Answer::NoAbort => 0,
-    }
-}
-
-fn passes_by(passed: PassedOn) -> u32
-    ensures { result ≡ passes_by passed }
-{
-    match passed {
-        PassedOn::Fault(_) => 1,
-        PassedOn::Nothing => 0,
-    }
-}
-
-fn passes_in(answer: Answer) -> u32
-    ensures { result ≡ passes_in answer }
-{
-    match answer {
-        Answer::Caused(cause) => passes_by(cause::passed_on(cause)),
-        Answer::NoEdition => 0,
-        Answer::NoAbort => 0,
+        Ok(cause) => [
+            kind_number(cause.kind),
+            level_number(cause.level),
+            cause.walk as u32,
+            cause::passed_on(cause).is_some() as u32,
+        ],
+        Err(_) => [0; 4],
     }
 }
 
@@ -156,11 +116,6 @@ pub fn knucklepin_cause(origin: u32, syndrome: &[u32; 16], cause: &mut [u32; 4])
     ensures { Causing (origin_of origin) (record_of syndrome.now) result cause.new }
 {
     let answer = cause::cause_of(origin_of(origin), record_of(*syndrome));
-    *cause = [
-        kind_in(answer),
-        level_in(answer),
-        walk_in(answer),
-        passes_in(answer),
-    ];
+    *cause = cause_in(answer);
     cause::number(answer)
 }

@@ -7,7 +7,6 @@ use Prim.Native.Nat.{ℕ}
 use lib.Dec.{T}
 use Rattle.bits.specs.Among.{among}
 use Rattle.bits.specs.Decide.{needs, decide, FirstFails}
-use Rattle.bits.proofs.Arms.{told}
 use Rattle.bits.proofs.Deciding.{decide_relabel, answer_is}
 use Rattle.promise.proofs.Promises.{first_exactly, promised as answers}
 use Rattle.record.specs.declared.kinds.Mcr.{Mcr}
@@ -16,10 +15,12 @@ use Rattle.record.specs.declared.kinds.Record.{Record}
 use Rattle.status.specs.Sound.{sound}
 use Rattle.exception.specs.declared.state.Guest.{Guest}
 use Rattle.step.specs.Over.{had}
-use Rattle.coprocessor.specs.declared.answer.Answer.TheVariants.{NoEdition, UnsoundStatus}
+use Rattle.step.specs.declared.refusal.OnwardRefusal.TheVariants.{NoEdition, UnsoundStatus}
+use Rattle.std.specs.Prelude.{Option, Some, None}
 use Rattle.coprocessor.specs.declared.transfer.Transfer.{Transfer}
-use Rattle.coprocessor.specs.declared.transfer.Transfer.TheVariants.{One, Two, None}
-use Rattle.coprocessor.specs.declared.transfer.Finished.{Finished}
+use Rattle.coprocessor.specs.declared.transfer.Transfer.TheVariants.{One, Two}
+use Rattle.step.specs.declared.over.Onward.{Onward}
+use Rattle.coprocessor.specs.declared.answer.Moved.{Moved}
 use Rattle.coprocessor.specs.Answer.{transfer_number}
 use Rattle.coprocessor.specs.Finish.{counted_of, is_transfer, transfer_numbers, read_one, wrote_one, read_two, wrote_two, one, two, refusing}
 use Rattle.coprocessor.specs.Finish.{by_transfer, finished}
@@ -32,22 +33,13 @@ module _ (s : Guest) (r : Record) (first second : ℕ) where
   unfolding finished
   no_edition e = rw e
 
-  pub unsound : had r ≡ true → sound s.marks s.status ≡ false → refusing UnsoundStatus s ≡ finished s r first second
-  unfolding finished
-  unsound e d = rw (e, d)
-
-  pub settled : had r ≡ true → sound s.marks s.status ≡ true → {t : Transfer} → counted_of s.status r ≡ t
-      → by_transfer s t first second ≡ finished s r first second
-  unfolding finished
-  settled e d q = rw (e, d) (told (λ (t : Transfer). by_transfer s t first second) q)
-
 -- ---- the first test that fails gives the number
 
 -- the number of the answer to a coprocessor read or write
-abbrev pub number_in : Finished → ℕ
+abbrev pub number_in : Onward Moved → ℕ
 number_in f = transfer_number f.answer
 
-one_taken : (s : Guest) (r : Mcr) (value : ℕ) → number_in (one s r value) ≡ 0
+pub one_taken : (s : Guest) (r : Mcr) (value : ℕ) → number_in (one s r value) ≡ 0
 unfolding one
 one_taken s r value = go r.direction
   where
@@ -55,7 +47,7 @@ one_taken s r value = go r.direction
     go true = refl
     go false = refl
 
-two_taken : (s : Guest) (r : Mcrr) (first second : ℕ) → number_in (two s r first second) ≡ 0
+pub two_taken : (s : Guest) (r : Mcrr) (first second : ℕ) → number_in (two s r first second) ≡ 0
 unfolding two
 two_taken s r first second = go r.direction
   where
@@ -63,9 +55,9 @@ two_taken s r first second = go r.direction
     go true = refl
     go false = refl
 
-by_kind_lem : (s : Guest) (t : Transfer) (first second : ℕ) → number_in (by_transfer s t first second) ≡ cond (is_transfer t) 0 18
-by_kind_lem s (One r) first second = one_taken s r first
-by_kind_lem s (Two r) first second = two_taken s r first second
+by_kind_lem : (s : Guest) (t : Option Transfer) (first second : ℕ) → number_in (by_transfer s t first second) ≡ cond (is_transfer t) 0 18
+by_kind_lem s (Some (One r)) first second = one_taken s r first
+by_kind_lem s (Some (Two r)) first second = two_taken s r first second
 by_kind_lem s None first second = refl
 
 pub number_decided : (s : Guest) (r : Record) (first second : ℕ) → number_in (finished s r first second) ≡ decide (transfer_numbers s r) 0
@@ -77,22 +69,22 @@ number_decided s r first second =
     (by_kind_lem s (counted_of s.status r) first second)
 
 -- what the calls promise of the answer and the state, by their equation alone
-pub promised : (s : Guest) (r : Record) (first second : ℕ) {f : Finished} → f ≡ finished s r first second
+pub promised : (s : Guest) (r : Record) (first second : ℕ) {f : Onward Moved} → f ≡ finished s r first second
     → TransferPromise s r first second f
 promised s r first second e = answers number_in (transfer_numbers s r) e (number_decided s r first second)
 
 -- A REFUSAL gives back the very state
-refused_kind : (s : Guest) (t : Transfer) (first second : ℕ) → (number_in (by_transfer s t first second) ≡ 0 → ⊥)
+refused_kind : (s : Guest) (t : Option Transfer) (first second : ℕ) → (number_in (by_transfer s t first second) ≡ 0 → ⊥)
     → (by_transfer s t first second).state ≡ s
-refused_kind s (One r) first second n = absurd (n (one_taken s r first))
-refused_kind s (Two r) first second n = absurd (n (two_taken s r first second))
+refused_kind s (Some (One r)) first second n = absurd (n (one_taken s r first))
+refused_kind s (Some (Two r)) first second n = absurd (n (two_taken s r first second))
 refused_kind s None first second n = refl
 
 pub refused_untouched : (s : Guest) (r : Record) (first second : ℕ) → (number_in (finished s r first second) ≡ 0 → ⊥)
     → (finished s r first second).state ≡ s
 unfolding finished
 refused_untouched s r first second =
-    answer_is (λ (f : Finished). (number_in f ≡ 0 → ⊥) → f.state ≡ s)
+    answer_is (λ (f : Onward Moved). (number_in f ≡ 0 → ⊥) → f.state ≡ s)
     (needs (had r) (refusing NoEdition s) ∷ needs (sound s.marks s.status) (refusing UnsoundStatus s) ∷ [])
     (by_transfer s (counted_of s.status r) first second) (λ n. refl, (λ n. refl, tt))
     (refused_kind s (counted_of s.status r) first second)

@@ -17,10 +17,12 @@ use Rattle.exception.specs.declared.state.Guest.{Guest}
 use Rattle.step.specs.Over.{had}
 use Rattle.step.specs.Step.{bytes_of, stepped}
 use Rattle.step.proofs.Frame.{Kept, same, Stepped, steps}
-use Rattle.coprocessor.specs.declared.answer.Answer.TheVariants.{NoEdition, UnsoundStatus}
+use Rattle.step.specs.declared.refusal.OnwardRefusal.TheVariants.{NoEdition, UnsoundStatus}
+use Rattle.std.specs.Prelude.{Option, Some, None}
 use Rattle.coprocessor.specs.declared.transfer.Transfer.{Transfer}
-use Rattle.coprocessor.specs.declared.transfer.Transfer.TheVariants.{One, Two, None}
-use Rattle.coprocessor.specs.declared.transfer.Finished.{Finished}
+use Rattle.coprocessor.specs.declared.transfer.Transfer.TheVariants.{One, Two}
+use Rattle.step.specs.declared.over.Onward.{Onward}
+use Rattle.coprocessor.specs.declared.answer.Moved.{Moved}
 use Rattle.coprocessor.specs.Flags.{status_after}
 use Rattle.coprocessor.specs.Finish.{counted_of, read_one, wrote_one, read_two, wrote_two, one, two, refusing, by_transfer, finished}
 use Rattle.coprocessor.proofs.Flags.{sound_status}
@@ -66,16 +68,16 @@ two_steps s r first second = go r.direction
     go true = steps s _ r.il
     go false = steps s _ r.il
 
-by_kind_lem : (s : Guest) (t : Transfer) (first second : ℕ) → Kept s (by_transfer s t first second).state
-by_kind_lem s (One r) first second = (one_steps s r first).kept
-by_kind_lem s (Two r) first second = (two_steps s r first second).kept
+by_kind_lem : (s : Guest) (t : Option Transfer) (first second : ℕ) → Kept s (by_transfer s t first second).state
+by_kind_lem s (Some (One r)) first second = (one_steps s r first).kept
+by_kind_lem s (Some (Two r)) first second = (two_steps s r first second).kept
 by_kind_lem s None first second = same s
 
 -- THE FRAME: whatever is answered, nothing but the registers, PC and the status word is another
 pub frame_kept : (s : Guest) (r : Record) (first second : ℕ) → Kept s (finished s r first second).state
 unfolding finished
 frame_kept s r first second =
-    answer_is (λ (f : Finished). Kept s f.state)
+    answer_is (λ (f : Onward Moved). Kept s f.state)
     (needs (had r) (refusing NoEdition s) ∷ needs (sound s.marks s.status) (refusing UnsoundStatus s) ∷ [])
     (by_transfer s (counted_of s.status r) first second) (same s, (same s, tt)) (by_kind_lem s (counted_of s.status r) first second)
 

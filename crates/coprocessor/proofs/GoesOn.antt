@@ -15,8 +15,8 @@ use Rattle.rule.proofs.Having.{has_own}
 use Rattle.step.specs.Condition.{passes}
 use Rattle.step.specs.Over.{had, is_stepped_over}
 use Rattle.step.proofs.Having.{had_some}
+use Rattle.std.specs.Prelude.{Option, None}
 use Rattle.coprocessor.specs.declared.transfer.Transfer.{Transfer}
-use Rattle.coprocessor.specs.declared.transfer.Transfer.TheVariants.{None}
 use Rattle.coprocessor.specs.Finish.{transfer_of, counted_of, is_transfer}
 
 -- no class of these is one that is always stepped over
@@ -24,7 +24,7 @@ other_class : (classes : List ℕ) → T (all (λ n. not (among (0x01 ∷ 0x13 �
     → among (0x01 ∷ 0x13 ∷ []) n ≡ false
 other_class classes t n e = not-true (among (0x01 ∷ 0x13 ∷ []) n) (among_all classes (λ k. not (among (0x01 ∷ 0x13 ∷ []) k)) t n e)
 
-by_pass : (t : Transfer) {c : Bool} → c ≡ false → is_transfer t ≡ true → (p : Bool)
+by_pass : (t : Option Transfer) {c : Bool} → c ≡ false → is_transfer t ≡ true → (p : Bool)
     → (c || false || not p) ≡ not (is_transfer (cond p t None))
 by_pass t c e true = ap (λ (b : Bool). b || false || false) c ∙ sym (ap not e)
 by_pass t c e false = ap (λ (b : Bool). b || false || true) c

@@ -1,12 +1,9 @@
 -- The number of each answer to a coprocessor read or write that is finished.
-use Rattle.std.specs.Prelude.{ℕ}
-use Rattle.coprocessor.specs.declared.answer.Answer.{Answer}
-use Rattle.coprocessor.specs.declared.answer.Answer.TheVariants.{Read, Written, WrittenTwo, NoEdition, UnsoundStatus, NoTransfer}
+use Rattle.std.specs.Prelude.{ℕ, Result, Ok, Err}
+use Rattle.step.specs.Refusal.{onward_number}
+use Rattle.step.specs.declared.refusal.OnwardRefusal.{OnwardRefusal}
+use Rattle.coprocessor.specs.declared.answer.Moved.{Moved}
 
-abbrev pub transfer_number : Answer → ℕ
-transfer_number Read = 0
-transfer_number (Written value) = 0
-transfer_number (WrittenTwo first second) = 0
-transfer_number NoEdition = 5
-transfer_number UnsoundStatus = 9
-transfer_number NoTransfer = 18
+abbrev pub transfer_number : Result Moved OnwardRefusal → ℕ
+transfer_number (Ok moved) = 0
+transfer_number (Err refusal) = onward_number refusal

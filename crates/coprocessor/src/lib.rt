@@ -5,5 +5,5 @@ mod answer;
 mod nzcv;
 mod transfer;
 
-pub use answer::{Answer, number};
-pub use transfer::{Finished, finish};
+pub use answer::{Moved, number};
+pub use transfer::finish;

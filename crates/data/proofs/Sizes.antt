@@ -1,24 +1,12 @@
--- A size by SAS: what an arm of a `match` on SAS shows is the definition's.
+-- Ones above the low bits, joined with them.
 use mathlib.Core.Path.{◌≡◌}
 use mathlib.Core.Bool.{Bool, true, false, cond}
 use Prim.Native.Nat.{ℕ, ◌+◌, ◌^◌, ◌<◌}
 use native.Mathlib.Omega.{arith}
 use lib.Bits.{bit_or, or_shifted}
 use lib.Dec.{eqb}
-use borrow.Author.Tests.{ne_eqb}
 use Rattle.bits.specs.Field.{field_of}
-use Rattle.bits.proofs.Arms.{told}
-use Rattle.data.specs.Data.{by_size, cut_to, ones_above}
-
-module _ {A : Type 0} (x y z : A) where
-  pub byte : {sas : ℕ} → sas ≡ 0 → x ≡ by_size sas x y z
-  byte e = told (λ (s : ℕ). by_size s x y z) e
-
-  pub half : {sas : ℕ} → sas ≡ 1 → y ≡ by_size sas x y z
-  half e = told (λ (s : ℕ). by_size s x y z) e
-
-  pub word : (sas : ℕ) → (sas ≡ 0 → ⊥) → (sas ≡ 1 → ⊥) → z ≡ by_size sas x y z
-  word sas p q = rw (ne_eqb sas 0 p, ne_eqb sas 1 q)
+use Rattle.data.specs.Data.{cut_to, ones_above}
 
 -- ones above the low bits and the low bits don't meet
 above_byte : (x : ℕ) → x < 2 ^ 8 → bit_or 0xFFFF_FF00 x ≡ 0xFFFF_FF00 + x

@@ -1,13 +1,11 @@
 -- Laws of what passes: reversed twice it is what it was, and extension keeps the low bits. Over every value and every SAS.
-use mathlib.Core.Path.{◌≡◌, sym, ap, ◌∙◌}
+use mathlib.Core.Path.{◌≡◌, ◌∙◌}
 use mathlib.Core.Bool.{Bool, true, false, ◌&&◌, cond}
-use Prim.Native.Nat.{ℕ, ◌+◌, ◌*◌, ◌/◌, ◌%◌, ◌^◌, ◌<◌}
-use native.Mathlib.Nat.{mod-lt}
+use Prim.Native.Nat.{ℕ, ◌+◌, ◌*◌, ◌^◌, ◌<◌}
 use native.Mathlib.Omega.{arith}
 use lib.Dec.{eqb}
-use lib.Pow.{split}
-use Rattle.bits.specs.Field.{field_of, bit_of}
-use Rattle.data.specs.Data.{by_size, cut_to, reversed, sign_of, ones_above, extended}
+use Rattle.bits.specs.Field.{field_of}
+use Rattle.data.specs.Data.{cut_to, reversed, sign_of, extended}
 
 -- a byte, a halfword and a word, by their bytes, the lowest first
 module _ (a b c d : ℕ) (ha : a < 256) (hb : b < 256) (hc : c < 256) (hd : d < 256) where

@@ -7,6 +7,7 @@ ghost use Rattle.data.specs.Data.{cut_to, reversed, transferred, sign_of, ones_a
 use bits::bit;
 
 // The low 8, 16 or 32 bits.
+#[tactic(auto, using(status::proofs::Masks::low_bits), unfolding(crate::specs::Data::cut_to))]
 fn cut_to(sas: u32, value: u32) -> u32
     ensures { result ≡ cut_to sas value }
 {
@@ -18,16 +19,14 @@ fn cut_to(sas: u32, value: u32) -> u32
 }
 
 // The bytes in reverse.
+#[tactic(auto, using(status::proofs::Masks::low_bits), unfolding(crate::specs::Data::reversed))]
 fn reversed(sas: u32, value: u32) -> u32
     ensures { result ≡ reversed sas value }
 {
     match sas {
         0 => value & 0xFF,
-        1 => ((value & 0xFF) << 8) | ((value & 0xFF00) >> 8),
-        _ => ((value & 0xFF) << 24)
-            | ((value & 0xFF00) << 8)
-            | ((value & 0x00FF_0000) >> 8)
-            | ((value & 0xFF00_0000) >> 24),
+        1 => ((value & 0xFFFF) as u16).swap_bytes() as u32,
+        _ => value.swap_bytes(),
     }
 }
 
@@ -60,6 +59,7 @@ fn ones_above(sas: u32) -> u32
 }
 
 // The low bits as a register takes them: extended by sign where SSE says so, else by zero.
+#[tactic(auto, using(crate::proofs::Sizes::joined))]
 pub fn extended(sas: u32, sse: bool, value: u32) -> u32
     ensures { result ≡ extended sas sse value }
 {

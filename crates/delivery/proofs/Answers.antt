@@ -13,8 +13,10 @@ use Rattle.pending.specs.Reading.{mask_in, list_of}
 use Rattle.pending.specs.Step.{Step, refused, step_to, taken, deliver_to, step_of}
 use Rattle.pending.specs.Step as plain
 use Rattle.pending.proofs.Steps.{step_refused, step_taken, step_number_lem}
-use Rattle.delivery.specs.declared.Answer.{Answer}
-use Rattle.delivery.specs.declared.Answer.TheVariants.{Delivered, Nothing, UnsoundStatus, UnalignedVbar}
+use Rattle.std.specs.Prelude.{Option, Some, None, Result, Ok, Err}
+use Rattle.pending.specs.declared.Kind.{Kind}
+use Rattle.delivery.specs.declared.DeliveryRefusal.{DeliveryRefusal}
+use Rattle.delivery.specs.declared.DeliveryRefusal.TheVariants.{UnsoundStatus, UnalignedVbar}
 use Rattle.delivery.specs.declared.Delivered as struct
 use Rattle.delivery.specs.Answer.{answer_number, plain_answer}
 use Rattle.delivery.specs.Deliver.{delivery_numbers, masks_of, guest_delivery}
@@ -47,11 +49,11 @@ unfolding guest_delivery
 passed q s e f h = sym (step_taken guest_delivery (list_of q) s (ap (λ (m : ℕ). eqb m 0) (both s e f)) h)
 
 -- an answer's number is the plain answer's
-pub same_number : (a : Answer) → answer_number a ≡ plain.answer_number (plain_answer a)
-same_number (Delivered k) = refl
-same_number Nothing = refl
-same_number UnsoundStatus = refl
-same_number UnalignedVbar = refl
+pub same_number : (a : Result (Option Kind) DeliveryRefusal) → answer_number a ≡ plain.answer_number (plain_answer a)
+same_number (Ok (Some k)) = refl
+same_number (Ok None) = refl
+same_number (Err UnsoundStatus) = refl
+same_number (Err UnalignedVbar) = refl
 
 -- what the calls promise, by their equation alone
 pub promised : (q : Queue) (s : Guest) (r : struct.Delivered)

@@ -6,7 +6,8 @@ use Prim.Native.Nat.{ℕ, ◌+◌}
 use Rattle.bits.specs.Decide.{FirstFails}
 use Rattle.bits.specs.Field.{bit_of}
 use Rattle.bits.proofs.Deciding.{decided_exactly}
-use Rattle.fault.specs.Fault.{status_word, on_code, write_bit, domain_in, column, asynchronous_row, code_in, asynchronous_dfsr, status_of, dfsr_of}
+use Rattle.std.specs.Prelude.{option_map}
+use Rattle.fault.specs.Fault.{status_word, write_bit, domain_in, column, asynchronous_row, code_in, asynchronous_dfsr, status_of, dfsr_of}
 use Rattle.exception.specs.declared.state.FaultRegisters.{FaultRegisters}
 use Rattle.exception.specs.declared.state.Guest.{Guest}
 use Rattle.guest.specs.declared.injection.Access.{Access}
@@ -38,8 +39,8 @@ unfolding dfsr_of status_of
 asynchronous_words domain ttbcr = go (bit_of ttbcr 31)
   where
     go : (b : Bool)
-        → code_in (on_code (λ w. write_bit false + (domain_in asynchronous_row b domain + w))
-        (on_code (λ c. status_word c b) (column asynchronous_row b)))
+        → code_in (option_map (λ w. write_bit false + (domain_in asynchronous_row b domain + w))
+        (option_map (λ c. status_word c b) (column asynchronous_row b)))
         ≡ cond b 0x211 0x406
     go true = refl
     go false = refl

@@ -10,28 +10,27 @@ ghost use Rattle.delivery.specs.Promise.{Delivering};
 use bits::bit;
 use exception::{FaultRegisters, Guest, Row, aligned, correction_in, enter};
 use fault::asynchronous_dfsr;
-use pending::{Choice, Kind, Masks, Queue, next};
+use pending::{Kind, Masks, Queue, next};
 use signed::Signed;
 use status::{Mode, sound, t32};
 
-#[derive(Clone, Copy)]
-pub enum Answer {
-    Delivered(Kind),
-    // Nothing waits whose mask bit is 0.
-    Nothing,
+// Why a step is refused.
+#[derive(Clone, Copy, PartialEq, Eq)]
+pub enum DeliveryRefusal {
     // The status word's mode, or a bit of its 24:21, is wrong.
     UnsoundStatus,
     // VBAR bits 4:0 are not zero.
     UnalignedVbar,
 }
 
-// A step's answer, and what waits after it.
+// A step's answer, the kind that it delivers or none where nothing waits whose mask bit is 0, and what waits after it.
 #[derive(Clone, Copy)]
 pub struct Outcome {
-    pub answer: Answer,
+    pub answer: Result<Option<Kind>, DeliveryRefusal>,
     pub queue: Queue,
 }
 
+// Kept: a refusal gives queue and state back beside the answer (`Delivering`, specs/Promise.antt).
 // A refusal, and a step that delivers nothing, leave the queue and the state as they came.
 #[derive(Clone, Copy)]
 pub struct Delivered {
@@ -39,14 +38,13 @@ pub struct Delivered {
     pub state: Guest,
 }
 
-pub fn number(answer: Answer) -> u32
+pub fn number(answer: Result<Option<Kind>, DeliveryRefusal>) -> u32
     ensures { result ≡ answer_number answer }
 {
     match answer {
-        Answer::Delivered(_) => 0,
-        Answer::Nothing => 0,
-        Answer::UnsoundStatus => 9,
-        Answer::UnalignedVbar => 10,
+        Ok(_) => 0,
+        Err(DeliveryRefusal::UnsoundStatus) => 9,
+        Err(DeliveryRefusal::UnalignedVbar) => 10,
     }
 }
 
@@ -101,25 +99,21 @@ fn faults_after(kind: Kind, old: FaultRegisters, ttbcr: u32) -> FaultRegisters
     match kind {
         Kind::Abort => FaultRegisters {
             dfsr: asynchronous_dfsr(0, ttbcr),
-            ifsr: old.ifsr,
-            dfar: old.dfar,
-            ifar: old.ifar,
+            ..old
         },
-        Kind::Fiq => old,
-        Kind::Irq => old,
+        Kind::Fiq | Kind::Irq => old,
     }
 }
 
 fn delivered_in(state: Guest, kind: Kind) -> Guest
     ensures { result ≡ delivered_in state kind }
 {
-    let old = state.faults;
-    let faults = faults_after(kind, old, state.ttbcr);
+    let faults = faults_after(kind, state.faults, state.ttbcr);
     enter(state, delivery_row(kind), faults)
 }
 
 // A step that moves nothing.
-fn unmoved(answer: Answer, queue: Queue, state: Guest) -> Delivered
+fn unmoved(answer: Result<Option<Kind>, DeliveryRefusal>, queue: Queue, state: Guest) -> Delivered
     ensures { result ≡ record { outcome = record { answer = answer; queue = queue }; state = state } }
 {
     Delivered {
@@ -132,24 +126,20 @@ fn unmoved(answer: Answer, queue: Queue, state: Guest) -> Delivered
 pub fn deliver(queue: Queue, state: Guest) -> Delivered
     ensures { Delivering queue state result }
 {
-    let marks = state.marks;
-    if !sound(marks, state.status) {
-        return unmoved(Answer::UnsoundStatus, queue, state);
+    if !sound(state.marks, state.status) {
+        return unmoved(Err(DeliveryRefusal::UnsoundStatus), queue, state);
     }
     if !aligned(state.vbar) {
-        return unmoved(Answer::UnalignedVbar, queue, state);
+        return unmoved(Err(DeliveryRefusal::UnalignedVbar), queue, state);
     }
     match next(queue, masks_of(state.status)) {
-        Choice::Nothing => unmoved(Answer::Nothing, queue, state),
-        Choice::Oldest(kind, left) => {
-            let after = delivered_in(state, kind);
-            Delivered {
-                outcome: Outcome {
-                    answer: Answer::Delivered(kind),
-                    queue: left,
-                },
-                state: after,
-            }
-        }
+        None => unmoved(Ok(None), queue, state),
+        Some((kind, left)) => Delivered {
+            outcome: Outcome {
+                answer: Ok(Some(kind)),
+                queue: left,
+            },
+            state: delivered_in(state, kind),
+        },
     }
 }

@@ -18,10 +18,10 @@ use Rattle.rule.proofs.Having.{origin_lacks}
 use Rattle.status.specs.Sound.{sound}
 use Rattle.exception.specs.declared.state.Guest.{Guest}
 use Rattle.step.specs.Over.{had}
-use Rattle.device.specs.declared.access.Described.{Described}
-use Rattle.device.specs.declared.access.Described.TheVariants.{Access, Nothing}
-use Rattle.device.specs.declared.access.Finished.{Finished}
-use Rattle.device.specs.declared.answer.Answer.TheVariants.{NoEdition, UnsoundStatus}
+use Rattle.std.specs.Prelude.{Option, Some, None}
+use Rattle.step.specs.declared.over.Onward.{Onward}
+use Rattle.device.specs.declared.answer.Moved.{Moved}
+use Rattle.step.specs.declared.refusal.OnwardRefusal.TheVariants.{NoEdition, UnsoundStatus}
 use Rattle.device.specs.Answer.{access_number, access_list}
 use Rattle.device.specs.Finish.{described_of, is_access, access_numbers, stored, loaded, accessed, refusing, by_description, finished}
 use Rattle.device.specs.Promise.{FinishPromise}
@@ -37,27 +37,23 @@ module _ (s : Guest) (r : Record) (value : ℕ) where
   pub other_origin : is_class Origin.AArch32 (head_of r).class ≡ false → refusing NoEdition s ≡ finished s r value
   other_origin lacking = no_edition (ap (λ (mask : ℕ). not (eqb mask 0)) (origin_lacks Origin.AArch32 r lacking))
 
-  pub unsound : had r ≡ true → sound s.marks s.status ≡ false → refusing UnsoundStatus s ≡ finished s r value
-  unfolding finished
-  unsound e d = rw (e, d)
-
-  pub settled : had r ≡ true → sound s.marks s.status ≡ true → {d : Described} → described_of r ≡ d
+  pub settled : had r ≡ true → sound s.marks s.status ≡ true → {d : Option DataAbort} → described_of r ≡ d
       → by_description s d value ≡ finished s r value
   unfolding finished
-  settled e d q = rw (e, d) (told (λ (x : Described). by_description s x value) q)
+  settled e d q = rw (e, d) (told (λ (x : Option DataAbort). by_description s x value) q)
 
 -- a data abort with ISV 1 that passes the tests is finished by its description
 pub taken : (s : Guest) (r : DataAbort) (value : ℕ) → had (Record.DataAbort r) ≡ true → sound s.marks s.status ≡ true → r.isv ≡ true
     → accessed s r value ≡ finished s (Record.DataAbort r) value
-taken s r value h d v = settled s (Record.DataAbort r) value h d (ap (λ (b : Bool). cond b (Access r) Nothing) v)
+taken s r value h d v = settled s (Record.DataAbort r) value h d (ap (λ (b : Bool). cond b (Some r) None) v)
 
 -- ---- the first test that fails gives the number
 
 -- the number of the answer to an access
-abbrev number_in : Finished → ℕ
+abbrev number_in : Onward Moved → ℕ
 number_in f = access_number f.answer
 
-finished_access : (s : Guest) (r : DataAbort) (value : ℕ) → number_in (accessed s r value) ≡ 0
+pub finished_access : (s : Guest) (r : DataAbort) (value : ℕ) → number_in (accessed s r value) ≡ 0
 unfolding accessed
 finished_access s r value = go r.wnr
   where
@@ -65,9 +61,9 @@ finished_access s r value = go r.wnr
     go true = refl
     go false = refl
 
-described : (s : Guest) (d : Described) (value : ℕ) → number_in (by_description s d value) ≡ cond (is_access d) 0 18
-described s (Access r) value = finished_access s r value
-described s Nothing value = refl
+described : (s : Guest) (d : Option DataAbort) (value : ℕ) → number_in (by_description s d value) ≡ cond (is_access d) 0 18
+described s (Some r) value = finished_access s r value
+described s None value = refl
 
 pub number_decided : (s : Guest) (r : Record) (value : ℕ) → number_in (finished s r value) ≡ decide (access_numbers s r) 0
 unfolding finished
@@ -77,19 +73,19 @@ number_decided s r value =
     ∙ ap (λ (n : ℕ). decide (needs (had r) 5 ∷ needs (sound s.marks s.status) 9 ∷ []) n) (described s (described_of r) value)
 
 -- what the calls promise of the answer and the state, by their equation alone
-pub promised : (s : Guest) (r : Record) (value : ℕ) {f : Finished} → f ≡ finished s r value → FinishPromise s r value f
+pub promised : (s : Guest) (r : Record) (value : ℕ) {f : Onward Moved} → f ≡ finished s r value → FinishPromise s r value f
 promised s r value e = answers number_in (access_numbers s r) e (number_decided s r value)
 
 -- A REFUSAL gives back the very state
-refused_description : (s : Guest) (d : Described) (value : ℕ) → (number_in (by_description s d value) ≡ 0 → ⊥)
+refused_description : (s : Guest) (d : Option DataAbort) (value : ℕ) → (number_in (by_description s d value) ≡ 0 → ⊥)
     → (by_description s d value).state ≡ s
-refused_description s (Access r) value n = absurd (n (finished_access s r value))
-refused_description s Nothing value n = refl
+refused_description s (Some r) value n = absurd (n (finished_access s r value))
+refused_description s None value n = refl
 
 pub refused_untouched : (s : Guest) (r : Record) (value : ℕ) → (number_in (finished s r value) ≡ 0 → ⊥) → (finished s r value).state ≡ s
 unfolding finished
 refused_untouched s r value =
-    answer_is (λ (f : Finished). (number_in f ≡ 0 → ⊥) → f.state ≡ s)
+    answer_is (λ (f : Onward Moved). (number_in f ≡ 0 → ⊥) → f.state ≡ s)
     (needs (had r) (refusing NoEdition s) ∷ needs (sound s.marks s.status) (refusing UnsoundStatus s) ∷ [])
     (by_description s (described_of r) value) (λ n. refl, (λ n. refl, tt)) (refused_description s (described_of r) value)
 

@@ -15,10 +15,10 @@ use Rattle.exception.specs.declared.state.Guest.{Guest}
 use Rattle.step.specs.Step.{stepped}
 use Rattle.step.specs.Over.{had}
 use Rattle.step.proofs.Frame.{Kept, same, Stepped, steps}
-use Rattle.device.specs.declared.access.Described.{Described}
-use Rattle.device.specs.declared.access.Described.TheVariants.{Access, Nothing}
-use Rattle.device.specs.declared.access.Finished.{Finished}
-use Rattle.device.specs.declared.answer.Answer.TheVariants.{NoEdition, UnsoundStatus}
+use Rattle.std.specs.Prelude.{Option, Some, None}
+use Rattle.step.specs.declared.over.Onward.{Onward}
+use Rattle.device.specs.declared.answer.Moved.{Moved}
+use Rattle.step.specs.declared.refusal.OnwardRefusal.TheVariants.{NoEdition, UnsoundStatus}
 use Rattle.data.specs.Data.{transferred, extended}
 use Rattle.device.specs.Finish.{described_of, stored, loaded, accessed, refusing, by_description, finished}
 use Rattle.data.specs.Data.{big_endian}
@@ -32,15 +32,15 @@ access_steps s r value = go r.wnr
     go true = steps s _ r.il
     go false = steps s _ r.il
 
-by_kind_lem : (s : Guest) (d : Described) (value : ℕ) → Kept s (by_description s d value).state
-by_kind_lem s (Access r) value = (access_steps s r value).kept
-by_kind_lem s Nothing value = same s
+by_kind_lem : (s : Guest) (d : Option DataAbort) (value : ℕ) → Kept s (by_description s d value).state
+by_kind_lem s (Some r) value = (access_steps s r value).kept
+by_kind_lem s None value = same s
 
 -- THE FRAME: whatever is answered, nothing but the registers, PC and the status word is another
 pub frame_kept : (s : Guest) (r : Record) (value : ℕ) → Kept s (finished s r value).state
 unfolding finished
 frame_kept s r value =
-    answer_is (λ (f : Finished). Kept s f.state)
+    answer_is (λ (f : Onward Moved). Kept s f.state)
     (needs (had r) (refusing NoEdition s) ∷ needs (sound s.marks s.status) (refusing UnsoundStatus s) ∷ [])
     (by_description s (described_of r) value) (same s, (same s, tt)) (by_kind_lem s (described_of r) value)
 

@@ -21,7 +21,7 @@ use Rattle.step.specs.Over.{had}
 use Rattle.layout_rule.specs.Rule.{no_syndrome_rule, valid_syndrome_rule, syndrome_rule, extension_from, data_rule}
 use Rattle.rule.proofs.Having.{has_fits, has_layout}
 use Rattle.step.proofs.Having.{had_some}
-use Rattle.device.specs.declared.access.Described.TheVariants.{Access, Nothing}
+use Rattle.std.specs.Prelude.{Some, None}
 use Rattle.device.specs.Finish.{described_by, described_of}
 
 module _ (a : DataAbort) (e : ℕ) (h : has Origin.AArch32 e (Record.DataAbort a) ≡ true) (v : a.isv ≡ true) where
@@ -74,21 +74,21 @@ module _ (a : DataAbort) (e : ℕ) (h : has Origin.AArch32 e (Record.DataAbort a
       flip false e = refl
 
 -- only a data abort with ISV 1 describes an access
-valid_sort : (s : Sort) {a : DataAbort} → described_by s ≡ Access a → (s ≡ Sort.DataAbort a) × (a.isv ≡ true)
+valid_sort : (s : Sort) {a : DataAbort} → described_by s ≡ Some a → (s ≡ Sort.DataAbort a) × (a.isv ≡ true)
 valid_sort Sort.Plain e = absurd_answer (cc)
 valid_sort Sort.Addressed e = absurd_answer (cc)
 valid_sort (Sort.InstructionAbort x) e = absurd_answer (cc)
 valid_sort (Sort.DataAbort x) {a} e = go x.isv refl e
   where
-    go : (b : Bool) → x.isv ≡ b → cond b (Access x) Nothing ≡ Access a → (Sort.DataAbort x ≡ Sort.DataAbort a) × (a.isv ≡ true)
+    go : (b : Bool) → x.isv ≡ b → cond b (Some x) None ≡ Some a → (Sort.DataAbort x ≡ Sort.DataAbort a) × (a.isv ≡ true)
     go true i q = let s : x ≡ a = cc in (ap Sort.DataAbort s, ap (λ (d : DataAbort). d.isv) (sym s) ∙ i)
     go false i q = absurd_answer (cc)
 valid_sort (Sort.SError x) e = absurd_answer (cc)
 
-pub only_valid : (r : Record) {a : DataAbort} → described_of r ≡ Access a → (r ≡ Record.DataAbort a) × (a.isv ≡ true)
+pub only_valid : (r : Record) {a : DataAbort} → described_of r ≡ Some a → (r ≡ Record.DataAbort a) × (a.isv ≡ true)
 only_valid r e = let s = valid_sort (sort_of r) e in (data_abort_sort r s.0, s.1)
 
-pub access_valid : (r : Record) {a : DataAbort} → had r ≡ true → described_of r ≡ Access a → (a.srt < 31) × (a.sas < 3)
+pub access_valid : (r : Record) {a : DataAbort} → had r ≡ true → described_of r ≡ Some a → (a.srt < 31) × (a.sas < 3)
 access_valid r {a} h d =
     let o = only_valid r d in
     let found = had_some r h in

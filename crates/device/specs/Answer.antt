@@ -1,14 +1,12 @@
 -- The number of each answer (01, 'Numbers a call may answer'; 02, C-17).
-use Rattle.std.specs.Prelude.{ℕ, List, [], ◌∷◌}
-use Rattle.device.specs.declared.answer.Answer.{Answer}
-use Rattle.device.specs.declared.answer.Answer.TheVariants.{Loaded, Stored, NoEdition, UnsoundStatus, NotDescribed}
+use Rattle.std.specs.Prelude.{ℕ, Result, Ok, Err, List, [], ◌∷◌}
+use Rattle.step.specs.Refusal.{onward_number}
+use Rattle.step.specs.declared.refusal.OnwardRefusal.{OnwardRefusal}
+use Rattle.device.specs.declared.answer.Moved.{Moved}
 
-abbrev pub access_number : Answer → ℕ
-access_number Loaded = 0
-access_number (Stored value) = 0
-access_number NoEdition = 5
-access_number UnsoundStatus = 9
-access_number NotDescribed = 18
+abbrev pub access_number : Result Moved OnwardRefusal → ℕ
+access_number (Ok moved) = 0
+access_number (Err refusal) = onward_number refusal
 
 -- what finishing an access may answer
 abbrev pub access_list : List ℕ

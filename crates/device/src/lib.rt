@@ -4,5 +4,5 @@
 mod access;
 mod answer;
 
-pub use access::{Finished, finish};
-pub use answer::{Answer, number};
+pub use access::finish;
+pub use answer::{Moved, number};

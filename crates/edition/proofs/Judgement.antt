@@ -5,31 +5,31 @@ use mathlib.Core.Bool.{Bool, true, false, cond, not}
 use Prim.Native.Nat.{ℕ, ◌<◌}
 use lib.Count.{ones}
 use lib.Dec.{eqb}
+use Rattle.std.specs.Prelude.{Ok, Err}
 use Rattle.bits.proofs.Arms.{absurd_answer}
 use Rattle.edition.specs.Mask.{mask_below}
 use Rattle.edition.specs.Judge.{judge_of}
-use Rattle.edition.specs.declared.Verdict.TheVariants.{Taken, Refused}
 use Rattle.edition.specs.declared.Refusal.TheVariants.{NoEdition, OtherEditions}
 use Rattle.edition.proofs.Masks.{mask_bit}
 
 pub judge_test : (n : ℕ) (test : ℕ → Bool) (e : ℕ) → e < n
     → judge_of e (mask_below n test)
-    ≡ cond (not (eqb (mask_below n test) 0)) (cond (test e) Taken (Refused (OtherEditions (mask_below n test) (ones (mask_below n test)))))
-    (Refused NoEdition)
+    ≡ cond (not (eqb (mask_below n test) 0)) (cond (test e) (Ok tt) (Err (OtherEditions (mask_below n test) (ones (mask_below n test)))))
+    (Err NoEdition)
 unfolding judge_of
 judge_test n test e is =
     ap
     (λ (b : Bool). cond (not (eqb (mask_below n test) 0))
-    (cond b Taken (Refused (OtherEditions (mask_below n test) (ones (mask_below n test)))))
-    (Refused NoEdition))
+    (cond b (Ok tt) (Err (OtherEditions (mask_below n test) (ones (mask_below n test)))))
+    (Err NoEdition))
     (mask_bit n test e is)
 
 -- what is taken, the edition has
-pub judge_taken : (n : ℕ) (test : ℕ → Bool) (e : ℕ) → e < n → judge_of e (mask_below n test) ≡ Taken → test e ≡ true
+pub judge_taken : (n : ℕ) (test : ℕ → Bool) (e : ℕ) → e < n → judge_of e (mask_below n test) ≡ Ok tt → test e ≡ true
 judge_taken n test e is t = by (not (eqb (mask_below n test) 0)) (test e) (sym (judge_test n test e is) ∙ t)
   where
     by : (some has : Bool)
-        → cond some (cond has Taken (Refused (OtherEditions (mask_below n test) (ones (mask_below n test))))) (Refused NoEdition) ≡ Taken
+        → cond some (cond has (Ok tt) (Err (OtherEditions (mask_below n test) (ones (mask_below n test))))) (Err NoEdition) ≡ Ok (tt {0})
         → has ≡ true
     by true true q = refl
     by true false q = absurd_answer (cc q)

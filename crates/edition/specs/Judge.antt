@@ -1,13 +1,11 @@
 -- The refusals of a word or a record (01, 'Numbers a call may answer'), and the judgement of an edition on a mask.
-use Rattle.std.specs.Prelude.{ℕ, not, [], ◌∷◌, eqb}
+use Rattle.std.specs.Prelude.{ℕ, not, [], ◌∷◌, eqb, Result, Ok, Err}
 use Rattle.std.specs.Int.Count.{ones}
 use Rattle.bits.specs.Field.{bit_of}
 use Rattle.bits.specs.Decide.{needs, decide}
 use Rattle.edition.specs.declared.Refusal.{Refusal}
 use Rattle.edition.specs.declared.Refusal.TheVariants.{UnknownEdition, UpperHalf, UnknownClass, ShortInstruction, NoEdition}
 use Rattle.edition.specs.declared.Refusal.TheVariants.{OtherEditions}
-use Rattle.edition.specs.declared.Verdict.{Verdict}
-use Rattle.edition.specs.declared.Verdict.TheVariants.{Taken, Refused}
 
 -- the number of a refusal
 abbrev pub refusal_number : Refusal → ℕ
@@ -36,6 +34,6 @@ refusal_count NoEdition = 0
 refusal_count (OtherEditions mask count) = count
 
 -- 5 where the mask is empty, then 6 with the mask and its number of ones where it doesn't have the edition
-unfoldable pub judge_of : ℕ → ℕ → Verdict
+unfoldable pub judge_of : ℕ → ℕ → Result Unit Refusal
 judge_of edition mask =
-    decide (needs (not (eqb mask 0)) (Refused NoEdition) ∷ needs (bit_of mask edition) (Refused (OtherEditions mask (ones mask))) ∷ []) Taken
+    decide (needs (not (eqb mask 0)) (Err NoEdition) ∷ needs (bit_of mask edition) (Err (OtherEditions mask (ones mask))) ∷ []) (Ok tt)

@@ -7,6 +7,7 @@ ghost use Rattle.edition.specs.Mask.{mask_of};
 ghost use Rattle.edition.specs.Judge.{refusal_number, refusal_mask, refusal_count, judge_of};
 
 // How many editions there are. A mask of editions is a u32, which has room for more.
+// Kept: an edition and a mask are numbers, since C hands them over, and refusal 1 is promised of a number that is no edition's.
 pub const EDITIONS: u32 = 16;
 
 // All editions, and those that have each feature that a constant table goes by. A function below says which editions each of the first two
@@ -20,7 +21,7 @@ pub const LPA2: u32 = 0xCCCC;
 pub const HAFDBS: u32 = 0xF0F0;
 
 // Why a word or a record is refused.
-#[derive(Clone, Copy)]
+#[derive(Clone, Copy, PartialEq, Eq)]
 pub enum Refusal {
     // 1: the edition's number is too large.
     UnknownEdition,
@@ -34,12 +35,6 @@ pub enum Refusal {
     NoEdition,
     // 6: other editions have it: their mask, and its number of ones.
     OtherEditions(u32, u32),
-}
-
-#[derive(Clone, Copy)]
-pub enum Verdict {
-    Taken,
-    Refused(Refusal),
 }
 
 // The refusal's number in the definition.
@@ -57,16 +52,13 @@ pub fn number(refusal: Refusal) -> u32
 }
 
 // The mask that a refusal carries.
+// Kept: `mask` and `count` each pick one number of one variant; a shared function would hand out both, for each to drop one.
 pub fn mask(refusal: Refusal) -> u32
     ensures { result ≡ refusal_mask refusal }
 {
     match refusal {
-        Refusal::UnknownEdition => 0,
-        Refusal::UpperHalf => 0,
-        Refusal::UnknownClass => 0,
-        Refusal::ShortInstruction => 0,
-        Refusal::NoEdition => 0,
         Refusal::OtherEditions(mask, _) => mask,
+        _ => 0,
     }
 }
 
@@ -75,12 +67,8 @@ pub fn count(refusal: Refusal) -> u32
     ensures { result ≡ refusal_count refusal }
 {
     match refusal {
-        Refusal::UnknownEdition => 0,
-        Refusal::UpperHalf => 0,
-        Refusal::UnknownClass => 0,
-        Refusal::ShortInstruction => 0,
-        Refusal::NoEdition => 0,
         Refusal::OtherEditions(_, count) => count,
+        _ => 0,
     }
 }
 
@@ -92,6 +80,7 @@ pub fn known(edition: u32) -> bool
 }
 
 // Every edition.
+#[tactic(auto, unfolding(crate::specs::Mask::mask_of))]
 pub fn all_editions() -> u32
     ensures { result ≡ mask_of (λ e. true) }
 {
@@ -99,6 +88,7 @@ pub fn all_editions() -> u32
 }
 
 // The editions that have RAS.
+#[tactic(auto, unfolding(crate::specs::Mask::mask_of))]
 pub fn ras_editions() -> u32
     ensures { result ≡ mask_of ras }
 {
@@ -106,6 +96,7 @@ pub fn ras_editions() -> u32
 }
 
 // The editions that don't have RAS.
+#[tactic(auto, unfolding(crate::specs::Mask::mask_of))]
 pub fn no_ras_editions() -> u32
     ensures { result ≡ mask_of (λ e. not (ras e)) }
 {
@@ -120,14 +111,15 @@ pub fn has_lpa(edition: u32) -> bool
 }
 
 // What an edition says of something that the editions of a mask have.
-pub fn judge(edition: u32, mask: u32) -> Verdict
+#[tactic(auto, unfolding(crate::specs::Judge::judge_of))]
+pub fn judge(edition: u32, mask: u32) -> Result<(), Refusal>
     ensures { result ≡ judge_of edition mask }
 {
     if mask == 0 {
-        return Verdict::Refused(Refusal::NoEdition);
+        return Err(Refusal::NoEdition);
     }
     if bits::bit(mask as u64, edition) {
-        return Verdict::Taken;
+        return Ok(());
     }
-    Verdict::Refused(Refusal::OtherEditions(mask, u32::count_ones(mask)))
+    Err(Refusal::OtherEditions(mask, u32::count_ones(mask)))
 }

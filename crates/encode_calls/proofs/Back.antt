@@ -3,6 +3,7 @@
 use mathlib.Core.Path.{◌≡◌, refl}
 use mathlib.Core.Bool.{Bool, true, false, ◌&&◌}
 use mathlib.Core.List.{List, ◌++◌}
+use Rattle.std.specs.Prelude.{Some}
 use Prim.Native.Nat.{ℕ, ◌+◌, ◌%◌}
 use lib.Dec.{ltb, leb}
 use Rattle.record_words.specs.Words.{flag}
@@ -11,7 +12,6 @@ use Rattle.a32_fields.specs.declared.kinds.Fields.{Fields}
 use Rattle.a32_fields.specs.declared.kinds.Multiple.{Multiple}
 use Rattle.a32_fields.specs.declared.kinds.Transfer.{Transfer}
 use Rattle.a32_words.specs.Words.{transfer_number, fields_words}
-use Rattle.encode_calls.specs.declared.Asked.{Asked}
 use Rattle.encode_calls.specs.Calls.{transfer_of, fields_of}
 
 mark_back : (b : Bool) → is_mark (flag b) ≡ b
@@ -60,11 +60,11 @@ as_literal Transfer.Ldrsh = (refl, refl, refl, refl)
 as_literal Transfer.Ldrd = (refl, refl, refl, refl)
 as_literal Transfer.Strd = (refl, refl, refl, refl)
 
-pub fields_back : (f : Fields) (rest : List ℕ) → fields_of (fields_words f ++ rest) ≡ Asked.Form f
+pub fields_back : (f : Fields) (rest : List ℕ) → fields_of (fields_words f ++ rest) ≡ Some f
 unfolding fields_of
 fields_back (Fields.Immediate r) rest =
     let n = with_immediate r.transfer in
-    rw n.0 (λ i. Asked.Form (Fields.Immediate (record {
+    rw n.0 (λ i. Some (Fields.Immediate (record {
       transfer = n.1 i;
       cond = r.cond;
       p = mark_back r.p i;
@@ -76,7 +76,7 @@ fields_back (Fields.Immediate r) rest =
     })))
 fields_back (Fields.Register r) rest =
     let n = with_register_lem r.transfer in
-    rw (n.0, n.1) (λ i. Asked.Form (Fields.Register (record {
+    rw (n.0, n.1) (λ i. Some (Fields.Register (record {
       transfer = n.2 i;
       cond = r.cond;
       p = mark_back r.p i;
@@ -88,7 +88,7 @@ fields_back (Fields.Register r) rest =
     })))
 fields_back (Fields.Literal r) rest =
     let n = as_literal r.transfer in
-    rw (n.0, n.1, n.2) (λ i. Asked.Form (Fields.Literal (record {
+    rw (n.0, n.1, n.2) (λ i. Some (Fields.Literal (record {
       transfer = n.3 i;
       cond = r.cond;
       u = mark_back r.u i;
@@ -98,8 +98,8 @@ fields_back (Fields.Literal r) rest =
 fields_back (Fields.Multiple r) rest = listed r r.load refl
   where
     listed : (r : Multiple) (load : Bool) → r.load ≡ load
-        → fields_of (fields_words (Fields.Multiple r) ++ rest) ≡ Asked.Form (Fields.Multiple r)
-    listed r true e = rw e (λ i. Asked.Form (Fields.Multiple (record {
+        → fields_of (fields_words (Fields.Multiple r) ++ rest) ≡ Some (Fields.Multiple r)
+    listed r true e = rw e (λ i. Some (Fields.Multiple (record {
       load = true;
       cond = r.cond;
       p = mark_back r.p i;
@@ -108,7 +108,7 @@ fields_back (Fields.Multiple r) rest = listed r r.load refl
       rn = r.rn;
       list = r.list;
     })))
-    listed r false e = rw e (λ i. Asked.Form (Fields.Multiple (record {
+    listed r false e = rw e (λ i. Some (Fields.Multiple (record {
       load = false;
       cond = r.cond;
       p = mark_back r.p i;

@@ -1,5 +1,5 @@
 -- What the call answers: the word of the fields that the first ten words hold, as a description hands them out (a32_words, `fields_words`).
-use Rattle.std.specs.Prelude.{ℕ, ◌%◌, ◌≡◌, Bool, cond, ◌&&◌, ◌||◌, List, eqb, ltb, leb, get_or}
+use Rattle.std.specs.Prelude.{ℕ, ◌%◌, ◌≡◌, Bool, cond, ◌&&◌, ◌||◌, List, Option, Some, None, eqb, ltb, leb, get_or}
 use Rattle.state_words.specs.Words.{is_mark}
 use Rattle.a32_fields.specs.declared.kinds.Fields.{Fields}
 use Rattle.a32_fields.specs.declared.kinds.Immediate.{Immediate}
@@ -9,8 +9,6 @@ use Rattle.a32_fields.specs.declared.kinds.Multiple.{Multiple}
 use Rattle.a32_fields.specs.declared.kinds.Transfer.{Transfer}
 use Rattle.a32_fields.specs.declared.kinds.Transfer.TheVariants.{Ldr, Str, Ldrb, Strb, Ldrh, Strh, Ldrsb, Ldrsh, Ldrd, Strd}
 use Rattle.a32_rule.specs.Answer.{encode_of, number_encoded}
-use Rattle.a32_rule.specs.declared.answer.Encoded.{Encoded}
-use Rattle.encode_calls.specs.declared.Asked.{Asked}
 
 -- the transfer of a number below 10
 unfoldable pub transfer_of : ℕ → Transfer
@@ -70,21 +68,21 @@ multiple_of load ws =
     }
 
 -- by the form's number: 0 to 9 with an immediate, 16 to 25 with a register, 32 to 41 a literal, 48 STM and 49 LDM
-unfoldable pub fields_of : List ℕ → Asked
+unfoldable pub fields_of : List ℕ → Option Fields
 fields_of ws =
-    cond (ltb (get_or ws 0 0) 10) (Asked.Form (Fields.Immediate (immediate_of (transfer_of (get_or ws 0 0)) ws)))
-    (cond (leb 16 (get_or ws 0 0) && ltb (get_or ws 0 0) 26) (Asked.Form (Fields.Register (register_of (transfer_of (get_or ws 0 0 % 16)) ws)))
-    (cond (leb 32 (get_or ws 0 0) && ltb (get_or ws 0 0) 42) (Asked.Form (Fields.Literal (literal_of (transfer_of (get_or ws 0 0 % 16)) ws)))
-    (cond (eqb (get_or ws 0 0) 48 || eqb (get_or ws 0 0) 49) (Asked.Form (Fields.Multiple (multiple_of (eqb (get_or ws 0 0) 49) ws))) Asked.None)))
+    cond (ltb (get_or ws 0 0) 10) (Some (Fields.Immediate (immediate_of (transfer_of (get_or ws 0 0)) ws)))
+    (cond (leb 16 (get_or ws 0 0) && ltb (get_or ws 0 0) 26) (Some (Fields.Register (register_of (transfer_of (get_or ws 0 0 % 16)) ws)))
+    (cond (leb 32 (get_or ws 0 0) && ltb (get_or ws 0 0) 42) (Some (Fields.Literal (literal_of (transfer_of (get_or ws 0 0 % 16)) ws)))
+    (cond (eqb (get_or ws 0 0) 48 || eqb (get_or ws 0 0) 49) (Some (Fields.Multiple (multiple_of (eqb (get_or ws 0 0) 49) ws))) None)))
 
 -- a number that is no form's is refused as fields that no word has are
-abbrev pub encoded_of : Asked → Encoded
-encoded_of (Asked.Form f) = encode_of f
-encoded_of Asked.None = Encoded.Refused
+abbrev pub encoded_of : Option Fields → Option ℕ
+encoded_of (Some f) = encode_of f
+encoded_of None = None
 
-abbrev pub word_in : Encoded → ℕ
-word_in (Encoded.Word w) = w
-word_in Encoded.Refused = 0
+abbrev pub word_in : Option ℕ → ℕ
+word_in (Some w) = w
+word_in None = 0
 
 pub record EncodedWord (ws : List ℕ) (n word : ℕ) : Type 0 where
   pub answer : n ≡ number_encoded (encoded_of (fields_of ws))

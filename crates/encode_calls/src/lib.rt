@@ -2,21 +2,14 @@
 #![tactic(auto)]
 
 ghost use Rattle.std.specs.Prelude.{◌≡◌};
-ghost use Rattle.encode_calls.specs.Calls.{transfer_of, immediate_of, register_of, literal_of, multiple_of, fields_of, encoded_of, word_in};
+ghost use Rattle.encode_calls.specs.Calls.{transfer_of, immediate_of, register_of, literal_of, multiple_of, fields_of, encoded_of};
 ghost use Rattle.encode_calls.specs.Calls.{EncodedWord};
 ghost use Rattle.a32_rule.specs.Answer.{number_encoded};
 
 use a32_fields::{Fields, Immediate, Literal, Multiple, Register, Transfer};
-use a32_rule::Encoded;
-
-// What the words ask for.
-#[derive(Clone, Copy)]
-pub(crate) enum Asked {
-    Form(Fields),
-    None,
-}
 
 // The transfer of a number below 10.
+// Kept: a TryFrom would answer a refusal that no caller can meet, since `fields_of` tests the number first.
 #[tactic(auto, unfolding(crate::specs::Calls::transfer_of))]
 fn transfer_of(number: u32) -> Transfer
     ensures { result ≡ transfer_of number }
@@ -92,50 +85,36 @@ fn multiple_of(load: bool, words: [u32; 16]) -> Multiple
 }
 
 // The fields that the words hold, by the form's number.
-fn fields_of(words: [u32; 16]) -> Asked
+#[tactic(auto, unfolding(crate::specs::Calls::fields_of))]
+fn fields_of(words: [u32; 16]) -> Option<Fields>
     ensures { result ≡ fields_of words }
 {
     let form = words[0];
     if form < 10 {
-        return Asked::Form(Fields::Immediate(immediate_of(transfer_of(form), words)));
+        return Some(Fields::Immediate(immediate_of(transfer_of(form), words)));
     }
     if (16 <= form) & (form < 26) {
-        return Asked::Form(Fields::Register(register_of(transfer_of(form % 16), words)));
+        return Some(Fields::Register(register_of(transfer_of(form % 16), words)));
     }
     if (32 <= form) & (form < 42) {
-        return Asked::Form(Fields::Literal(literal_of(transfer_of(form % 16), words)));
+        return Some(Fields::Literal(literal_of(transfer_of(form % 16), words)));
     }
     if (form == 48) | (form == 49) {
-        return Asked::Form(Fields::Multiple(multiple_of(form == 49, words)));
+        return Some(Fields::Multiple(multiple_of(form == 49, words)));
     }
-    Asked::None
+    None
 }
 
-fn encoded(asked: Asked) -> Encoded
+fn encoded(asked: Option<Fields>) -> Option<u32>
     ensures { result ≡ encoded_of asked }
 {
-    match asked {
-        Asked::Form(f) => a32_rule::encode(f),
-        Asked::None => Encoded::Refused,
-    }
+    a32_rule::encode(asked?)
 }
 
-fn word_in(answer: Encoded) -> u32
-    ensures { result ≡ word_in answer }
-{
-    match answer {
-        Encoded::Word(word) => word,
-        Encoded::Refused => 0,
-    }
-}
-
-fn number_in(answer: Encoded) -> u32
+fn number_in(answer: Option<u32>) -> u32
     ensures { result ≡ number_encoded answer }
 {
-    match answer {
-        Encoded::Word(_) => 0,
-        Encoded::Refused => 19,
-    }
+    if answer.is_some() { 0 } else { 19 }
 }
 
 // The word that the fields make.
@@ -143,6 +122,6 @@ pub fn knucklepin_a32_encode(access: &[u32; 16], word: &mut u32) -> u32
     ensures { EncodedWord access.now result word.new }
 {
     let answer = encoded(fields_of(*access));
-    *word = word_in(answer);
+    *word = answer.unwrap_or(0);
     number_in(answer)
 }

@@ -13,9 +13,9 @@ use record::Origin;
 use record_of_words::record_of;
 use record_words::words_of;
 use registers::Esr;
-use syndrome::{Read, Written};
 
 // 0 is AArch32, and every other number AArch64.
+// Kept: the C interface has the origin, the edition and the answers as numbers, and a record as sixteen words.
 pub fn origin_of(origin: u32) -> Origin
     ensures { result ≡ origin_of origin }
 {
@@ -27,6 +27,7 @@ pub fn origin_of(origin: u32) -> Origin
 }
 
 // The mask and the count that a refusal carries.
+// Kept: short_calls has it too; shared, these two lines would make the short form's calls stand on the long form's.
 fn editions_of(refusal: Refusal) -> [u32; 2]
     ensures { result ≡ refusal_mask refusal ∷ refusal_count refusal ∷ [] }
 {
@@ -44,12 +45,12 @@ pub fn knucklepin_esr_read_raw(
     ensures { ReadWords (read_of (origin_of origin) edition (record { 0 = esr })) result syndrome.new editions.new }
 {
     match syndrome::read(origin_of(origin), edition, Esr(esr)) {
-        Read::Taken(r) => {
+        Ok(r) => {
             *syndrome = words_of(r);
             *editions = [0, 0];
             0
         }
-        Read::Refused(refusal) => {
+        Err(refusal) => {
             *syndrome = [0u32; 16];
             *editions = editions_of(refusal);
             edition::number(refusal)
@@ -68,12 +69,12 @@ pub fn knucklepin_esr_write_raw(
     ensures { WrittenWords (write_of (origin_of origin) edition (record_of syndrome.now)) result esr.new editions.new }
 {
     match syndrome::write(origin_of(origin), edition, record_of(*syndrome)) {
-        Written::Word(word) => {
+        Ok(word) => {
             *esr = word.0;
             *editions = [0, 0];
             0
         }
-        Written::Refused(refusal) => {
+        Err(refusal) => {
             *esr = 0;
             *editions = editions_of(refusal);
             edition::number(refusal)

@@ -1,14 +1,13 @@
--- The answer that a call's own answer and state make.
+-- The answer that a call's own answer makes.
 -- Assumes nothing.
-use mathlib.Core.Path.{◌≡◌, ap, ◌∙◌}
-use Rattle.exception.specs.declared.state.Guest.{Guest}
+use Rattle.std.specs.Prelude.{◌≡◌, ⊤, Result, Ok, Err}
+use mathlib.Core.Path.{ap, ◌∙◌}
 use Rattle.example.specs.declared.Next.{Next}
-use Rattle.example.specs.declared.Answered.{Answered}
+use Rattle.example.specs.declared.refusals.Refusal.{Refusal}
+use Rattle.example.specs.Gone.{Resuming, resumed_by}
 
-abbrev pub answering : Next → Guest → Answered
-answering n s = record { next = n; state = s }
-
--- what was done is what the call's definition says, and so is what comes next
-pub by_call : {D : Type 0} (next : D → Next) (state : D → Guest) {done d : D} {n : Next} → n ≡ next done → done ≡ d
-    → answering n (state done) ≡ answering (next d) (state d)
-by_call next state {done} e same = ap (λ n. answering n (state done)) e ∙ ap (λ x. answering (next x) (state x)) same
+-- a refusal that is converted is the one that the conversion names
+pub resumed : {E : Type 0} (refused : E → Refusal) (a : Result ⊤ E) {r : Result Next Refusal}
+    → Resuming (λ refusal made. made ≡ refused refusal) a r → r ≡ resumed_by refused a
+resumed refused (Ok done) p = p
+resumed refused (Err refusal) p = p.2 ∙ ap Err p.1

@@ -1,50 +1,55 @@
 -- Where each way leads: what the monitor does next and the guest's state, by the definitions of the calls that it makes.
-use Rattle.std.specs.Prelude.{ℕ, cond, eqb}
+use Rattle.std.specs.Prelude.{ℕ, ◌≡◌, ⊤, Result, Ok, Err}
 use Rattle.record.specs.declared.kinds.Record.{Record}
 use Rattle.exception.specs.declared.state.Guest.{Guest}
-use Rattle.guest.specs.Answer.{answer_number}
 use Rattle.guest.specs.Inject.{injected}
 use Rattle.guest.specs.declared.injection.Injection.{Injection}
-use Rattle.step.specs.Over.{step_number, stepped_over}
+use Rattle.a32_access.specs.declared.access.Access.{Access}
+use Rattle.step.specs.declared.refusal.OnwardRefusal.{OnwardRefusal}
+use Rattle.step.specs.Over.{stepped_over}
 use Rattle.device.specs.Finish.{finished}
-use Rattle.device.specs.declared.answer.Answer as Device
+use Rattle.device.specs.declared.answer.Moved.{Moved}
+use Rattle.device.specs.declared.answer.Moved.TheVariants.{Loaded, Stored}
 use Rattle.a32.specs.Promise.{described_answer}
-use Rattle.a32.specs.declared.instruction.Answer as A32
+use Rattle.a32.specs.declared.instruction.InstructionRefusal.{InstructionRefusal}
 use Rattle.example.specs.declared.Next.{Next}
-use Rattle.example.specs.declared.Next.TheVariants.{Resume, Give, Perform, Refused}
+use Rattle.example.specs.declared.Next.TheVariants.{Resume, Give, Perform}
+use Rattle.example.specs.declared.refusals.Refusal.{Refusal}
 use Rattle.example.specs.declared.Answered.{Answered}
 use Rattle.example.specs.declared.way.Way.{Way}
 use Rattle.example.specs.declared.way.Way.TheVariants.{Inject, Finish, Describe, StepOver, Leave}
 
--- by the number that a call answers: 0, or a refusal's
-abbrev pub by_number : ℕ → Next
-by_number n = cond (eqb n 0) Resume (Refused n)
+-- the guest goes on after a call that leaves nothing to do, and a refusal is handed on
+abbrev pub resumed_by : {E : Type 0} → (E → Refusal) → Result ⊤ E → Result Next Refusal
+resumed_by refused (Ok done) = Ok Resume
+resumed_by refused (Err refusal) = Err (refused refusal)
+
+-- the same for any error, whose conversion to another gives what `gives` says
+abbrev pub Resuming : {E R : Type 0} → (E → R → Type 0) → Result ⊤ E → Result Next R → Type 0
+Resuming gives (Ok done) r = r ≡ Ok Resume
+Resuming gives (Err refusal) r = (made : _) × gives refusal made × (r ≡ Err made)
 
 -- a store that is finished gives the card its value
-abbrev pub by_access : Device.Answer → Next
-by_access Device.Answer.Loaded = Resume
-by_access (Device.Answer.Stored value) = Give value
-by_access Device.Answer.NoEdition = Refused 5
-by_access Device.Answer.UnsoundStatus = Refused 9
-by_access Device.Answer.NotDescribed = Refused 18
+abbrev pub by_access : Result Moved OnwardRefusal → Result Next Refusal
+by_access (Ok Loaded) = Ok Resume
+by_access (Ok (Stored value)) = Ok (Give value)
+by_access (Err refusal) = Err (Refusal.Onward refusal)
 
-unfoldable pub injecting : Guest → Injection → Answered
-injecting s i = record { next = by_number (answer_number (injected s i).answer); state = (injected s i).state }
+abbrev pub injecting : Guest → Injection → Answered
+injecting s i = record { next = resumed_by Refusal.Injection (injected s i).answer; state = (injected s i).state }
 
-unfoldable pub finishing : Guest → Record → ℕ → Answered
+abbrev pub finishing : Guest → Record → ℕ → Answered
 finishing s r value = record { next = by_access (finished s r value).answer; state = (finished s r value).state }
 
-unfoldable pub stepping : Guest → Record → Answered
-stepping s r = record { next = by_number (step_number (stepped_over s r).answer); state = (stepped_over s r).state }
+abbrev pub stepping : Guest → Record → Answered
+stepping s r = record { next = resumed_by Refusal.Onward (stepped_over s r).answer; state = (stepped_over s r).state }
 
 -- an access that the instruction word describes is still to be made; where it describes none, the guest gets the abort
-abbrev pub by_description : Guest → Injection → A32.Answer → Answered
-by_description s abort (A32.Answer.Taken access) = record { next = Perform access; state = s }
-by_description s abort A32.Answer.UnsoundStatus = injecting s abort
-by_description s abort A32.Answer.T32State = injecting s abort
-by_description s abort A32.Answer.NoForm = injecting s abort
+abbrev pub by_description : Guest → Injection → Result Access InstructionRefusal → Answered
+by_description s abort (Ok access) = record { next = Ok (Perform access); state = s }
+by_description s abort (Err refusal) = injecting s abort
 
-unfoldable pub describing : Guest → ℕ → Injection → Answered
+abbrev pub describing : Guest → ℕ → Injection → Answered
 describing s word abort = by_description s abort (described_answer s word)
 
 abbrev pub gone : Guest → Record → ℕ → ℕ → Way → Answered
@@ -52,4 +57,4 @@ gone s r word value (Inject what) = injecting s what
 gone s r word value Finish = finishing s r value
 gone s r word value (Describe abort) = describing s word abort
 gone s r word value StepOver = stepping s r
-gone s r word value Leave = record { next = Resume; state = s }
+gone s r word value Leave = record { next = Ok Resume; state = s }

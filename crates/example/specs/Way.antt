@@ -45,6 +45,6 @@ sort_way class card address (Sort.DataAbort r) = data_way card address r.cm r.is
 sort_way class card address (Sort.SError r) = Leave
 
 -- an instruction whose condition fails does nothing, whatever its class
-unfoldable pub way_of : ℕ → Seen → Way
+abbrev pub way_of : ℕ → Seen → Way
 way_of status t =
     cond (passes status t.what) (sort_way (head_of t.what).class t.card t.address (sort_of t.what)) StepOver

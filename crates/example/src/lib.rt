@@ -1,16 +1,20 @@
 // A monitor's answer to a trap of its guest, which has one emulated card: a start for a monitor of your own.
-#![tactic(auto)]
+#![tactic(auto, using(crate::proofs::Calls::resumed))]
 
 ghost use Rattle.std.specs.Prelude.{◌≡◌};
-ghost use Rattle.example.specs.Gone.{by_number, by_access, injecting, finishing, describing, stepping, gone};
+ghost use Rattle.example.specs.Gone.{Resuming, by_access, injecting, finishing, describing, stepping, gone};
 ghost use Rattle.example.specs.Answered.{answered};
 
+mod refusals;
 mod way;
 
 use a32_access::Access;
+use device::Moved;
 use guest::{Guest, Injection};
 use record::{Origin, Record};
+pub use refusals::{Refusal, number};
 use registers::{Esr, Far, Hpfar};
+use step::OnwardRefusal;
 use way::Way;
 
 // What the monitor does next.
@@ -22,34 +26,30 @@ pub enum Next {
     Give(u32),
     // The card is asked for what this access loads, in transfer order, and then `a32_finish::finish` goes on.
     Perform(Access),
-    // Nothing was done: the refusal's number.
-    Refused(u32),
 }
 
+// A refusal's state is the one that came: nothing was done.
 #[derive(Clone, Copy)]
 pub struct Answered {
-    pub next: Next,
+    pub next: Result<Next, Refusal>,
     pub state: Guest,
 }
 
-// By the number that a call answers: 0, or a refusal's.
-fn by_number(number: u32) -> Next
-    ensures { result ≡ by_number number }
+// The guest goes on after a call that leaves nothing to do.
+fn resuming<E, R: From<E>>(answer: Result<(), E>) -> Result<Next, R>
+    ensures { Resuming R.from_gives answer result }
 {
-    if number == 0 {
-        Next::Resume
-    } else {
-        Next::Refused(number)
-    }
+    answer?;
+    Ok(Next::Resume)
 }
 
 // A store that is finished gives the card its value.
-fn by_access(answer: device::Answer) -> Next
+fn by_access(answer: Result<Moved, OnwardRefusal>) -> Result<Next, Refusal>
     ensures { result ≡ by_access answer }
 {
-    match answer {
-        device::Answer::Stored(given) => Next::Give(given),
-        other => by_number(device::number(other)),
+    match answer? {
+        Moved::Loaded => Ok(Next::Resume),
+        Moved::Stored(given) => Ok(Next::Give(given)),
     }
 }
 
@@ -58,11 +58,9 @@ fn injected(state: Guest, what: Injection) -> Answered
     ensures { result ≡ injecting state what }
 {
     let done = guest::inject(state, what);
-    let answer = done.answer;
-    let after = done.state;
     Answered {
-        next: by_number(guest::number(answer)),
-        state: after,
+        next: resuming(done.answer),
+        state: done.state,
     }
 }
 
@@ -71,11 +69,9 @@ fn finished(state: Guest, what: Record, value: u32) -> Answered
     ensures { result ≡ finishing state what value }
 {
     let done = device::finish(state, what, value);
-    let answer = done.answer;
-    let after = done.state;
     Answered {
-        next: by_access(answer),
-        state: after,
+        next: by_access(done.answer),
+        state: done.state,
     }
 }
 
@@ -84,13 +80,12 @@ fn described(state: Guest, word: u32, abort: Injection) -> Answered
     ensures { result ≡ describing state word abort }
 {
     let done = a32::describe(state, word);
-    let answer = done.answer;
-    match answer {
-        a32::Answer::Taken(access) => Answered {
-            next: Next::Perform(access),
+    match done.answer {
+        Ok(access) => Answered {
+            next: Ok(Next::Perform(access)),
             state,
         },
-        _ => injected(state, abort),
+        Err(_) => injected(state, abort),
     }
 }
 
@@ -99,11 +94,9 @@ fn stepped(state: Guest, what: Record) -> Answered
     ensures { result ≡ stepping state what }
 {
     let done = step::step_over(state, what);
-    let answer = done.answer;
-    let after = done.state;
     Answered {
-        next: by_number(step::number(answer)),
-        state: after,
+        next: resuming(done.answer),
+        state: done.state,
     }
 }
 
@@ -116,7 +109,7 @@ fn gone(state: Guest, way: Way, what: Record, word: u32, value: u32) -> Answered
         Way::Describe(abort) => described(state, word, abort),
         Way::StepOver => stepped(state, what),
         Way::Leave => Answered {
-            next: Next::Resume,
+            next: Ok(Next::Resume),
             state,
         },
     }
@@ -135,17 +128,14 @@ pub fn answer(
     ensures { result ≡ answered state edition esr far hpfar word value }
 {
     match trap::read(Origin::AArch32, edition, esr, far, hpfar) {
-        trap::Answer::Refused(refusal) => {
-            let number = trap::number(refusal);
-            Answered {
-                next: Next::Refused(number),
-                state,
-            }
+        Ok(trap) => {
+            let seen = way::seen_in(trap);
+            let way = way::way_of(state.status, seen);
+            gone(state, way, seen.what, word, value)
         }
-        trap::Answer::Shown(shown) => {
-            let seen = way::seen_in(shown);
-            let what = seen.what;
-            gone(state, way::way_of(state.status, seen), what, word, value)
-        }
+        Err(refusal) => Answered {
+            next: Err(refusal.into()),
+            state,
+        },
     }
 }

@@ -1,10 +1,10 @@
 // How the guest goes on after a trap: the table 'After the trap, class by class' of docs/ENGINEER.md, for a monitor with one emulated card and
 // no other work of its own.
 ghost use Rattle.std.specs.Prelude.{◌≡◌};
-ghost use Rattle.example.specs.Seen.{at_card, told, seen_of};
+ghost use Rattle.example.specs.Seen.{at_card, seen_of};
 ghost use Rattle.example.specs.Way.{data_way, plain_way, sort_way, way_of};
 
-use address::{IntermediateAddress, VirtualAddress};
+use address::IntermediateAddress;
 use fault::Fault;
 use guest::{Access, Fetch, Injection};
 use record::{Record, Sort};
@@ -35,48 +35,27 @@ pub(crate) enum Way {
 // The page of intermediate addresses that the card stands at.
 const CARD: u64 = 0x0A00_0000;
 
-fn at_card(place: IntermediateAddress) -> bool
+fn at_card(place: Option<IntermediateAddress>) -> bool
     ensures { result ≡ at_card place }
 {
-    match place {
-        IntermediateAddress::None => false,
-        IntermediateAddress::Page(_) => false,
-        IntermediateAddress::Byte(byte) => byte / 4096 == CARD / 4096,
-    }
-}
-
-// The address that the guest is told: FAR, where it is known.
-fn told(address: VirtualAddress) -> u64
-    ensures { result ≡ told address }
-{
-    match address {
-        VirtualAddress::Known(far) => far,
-        VirtualAddress::Unknown => 0,
-    }
+    matches!(place, Some(IntermediateAddress::Byte(byte)) if byte / 4096 == CARD / 4096)
 }
 
 pub(crate) fn seen_in(trap: Trap) -> Seen
     ensures { result ≡ seen_of trap }
 {
     match trap {
-        Trap::Abort(abort) => {
-            let what = abort.syndrome;
-            let place = abort.intermediate;
-            let address = abort.address;
-            Seen {
-                what,
-                card: at_card(place),
-                address: told(address),
-            }
-        }
-        Trap::Addressed(at) => {
-            let what = at.syndrome;
-            Seen {
-                what,
-                card: false,
-                address: at.address,
-            }
-        }
+        Trap::Abort(abort) => Seen {
+            what: abort.syndrome,
+            card: at_card(abort.intermediate),
+            // FAR, where it is known.
+            address: abort.address.unwrap_or(0),
+        },
+        Trap::Addressed(at) => Seen {
+            what: at.syndrome,
+            card: false,
+            address: at.address,
+        },
         Trap::Plain(what) => Seen {
             what,
             card: false,
@@ -145,10 +124,9 @@ fn sort_way(class: u32, card: bool, address: u64, sort: Sort) -> Way
 pub(crate) fn way_of(status: u32, seen: Seen) -> Way
     ensures { result ≡ way_of status seen }
 {
-    let what = seen.what;
-    if !step::passes(status, what) {
+    if !step::passes(status, seen.what) {
         return Way::StepOver;
     }
-    let top = record::head(what);
-    sort_way(top.class, seen.card, seen.address, record::sort(what))
+    let top = record::head(seen.what);
+    sort_way(top.class, seen.card, seen.address, record::sort(seen.what))
 }

@@ -7,7 +7,6 @@ use crate::state::{FaultRegisters, Guest, Saved, with_register};
 use bits::bit;
 use signed::{Signed, sum};
 use status::{Mode, entry_status, t32};
-use std::num::wrapping_add_u32;
 
 // What an exception does: the mode that it enters, its offset in the vector table, the mode's LR in the AArch64 numbering, whether A and F
 // are set (else kept), and what is added to PC for the link, in either instruction set.
@@ -23,6 +22,7 @@ pub struct Row {
 }
 
 // A vector table starts at a multiple of 32.
+#[tactic(auto, using(status::proofs::Masks::field_zero), unfolding(crate::specs::Vector::aligned))]
 pub fn aligned(vbar: u32) -> bool
     ensures { result ≡ aligned vbar }
 {
@@ -51,34 +51,35 @@ pub fn correction_in(row: Row, t32: bool) -> Signed
 fn saved_in(mode: Mode, saved: Saved, word: u32) -> Saved
     ensures { result ≡ saved_in mode saved word }
 {
-    let mut after = saved;
     match mode {
-        Mode::Supervisor => after.svc = word,
-        Mode::Abort => after.abt = word,
-        Mode::Undefined => after.und = word,
-        Mode::Fiq => after.fiq = word,
-        Mode::Irq => after.irq = word,
+        Mode::Supervisor => Saved { svc: word, ..saved },
+        Mode::Abort => Saved { abt: word, ..saved },
+        Mode::Undefined => Saved { und: word, ..saved },
+        Mode::Fiq => Saved { fiq: word, ..saved },
+        Mode::Irq => Saved { irq: word, ..saved },
     }
-    after
 }
 
 // The state as the handler finds it, with the fault registers that the exception leaves.
+#[tactic(auto, unfolding(crate::specs::Entry::entered))]
 pub fn enter(state: Guest, row: Row, faults: FaultRegisters) -> Guest
     ensures { result ≡ entered state row faults }
 {
-    let mut after = state;
-    let mode = row.mode;
     let link = sum(state.pc, correction_in(row, t32(state.status)));
-    let regs = state.regs;
-    let new_regs = with_register(regs, row.link, link);
-    after.regs = new_regs;
-    let marks = state.marks;
-    let status = entry_status(marks, mode, row.a, row.f, state.status, state.sctlr);
-    let old = state.saved;
-    let saved = saved_in(mode, old, state.status);
-    after.saved = saved;
-    after.status = status;
-    after.pc = wrapping_add_u32(vector_base(state.sctlr, state.vbar), row.vector);
-    after.faults = faults;
-    after
+    let status = entry_status(
+        state.marks,
+        row.mode,
+        row.a,
+        row.f,
+        state.status,
+        state.sctlr,
+    );
+    Guest {
+        regs: with_register(state.regs, row.link, link),
+        pc: vector_base(state.sctlr, state.vbar).wrapping_add(row.vector),
+        status,
+        saved: saved_in(row.mode, state.saved, state.status),
+        faults,
+        ..state
+    }
 }

@@ -8,107 +8,92 @@
 
 ghost use Rattle.std.specs.Prelude.{◌≡◌, ◌≤◌, ◌*◌, length, take};
 ghost use Rattle.io.specs.Counts.{IsPrefixLen};
-ghost use Rattle.text.specs.Append.{Appends};
+ghost use Rattle.text.specs.Append.{Extends};
 ghost use Rattle.question.specs.Question.{question_of};
 ghost use Rattle.explain.specs.Answer.{answer_text};
 ghost use Rattle.explain.specs.Lines.{line_after, answers_in, end_text, Answered};
 
-use question::{Question, State};
+use question::Question;
 use registers::{Esr, Far, Hpfar, Hsr};
 use std::env::Env;
 use std::io::{Read, Write};
+use stream::Failed;
+use text::Text;
 
 // Appends the answer to a question.
-fn answer(out: &mut [u8], at: usize, question: Question) -> usize
-    ensures { Appends (answer_text question) out.old at out.new result }
+fn answer(text: &mut Text<'_>, question: Option<Question>)
+    ensures { Extends (answer_text question) text.old text.new }
 {
     match question {
-        Question::Word { edition, esr } => explain_text::word_said(out, at, edition, Esr(esr)),
-        Question::Trap {
-            edition,
-            esr,
-            far,
-            hpfar,
-        } => explain_text::trap_said(out, at, edition, Esr(esr), Far(far), Hpfar(hpfar)),
-        Question::Short { edition, hsr } => short_text::said(out, at, edition, Hsr(hsr)),
-        Question::None => text::append(out, at, b"no line\n"),
+        Some(Question::Word { edition, esr }) => explain_text::word_said(text, edition, Esr(esr)),
+        Some(
+            Question::Trap {
+                edition,
+                esr,
+                far,
+                hpfar,
+            },
+        ) => explain_text::trap_said(text, edition, Esr(esr), Far(far), Hpfar(hpfar)),
+        Some(Question::Short { edition, hsr }) => short_text::said(text, edition, Hsr(hsr)),
+        None => text.append(b"no line\n"),
     }
 }
 
-// The line that a chunk leaves unended, and the end of the answers to those that it ends.
-#[derive(Clone, Copy)]
-struct Progress {
-    line: State,
-    end: usize,
-}
+// A line as far as it has come.
+type State = line::State<{ question::LENGTH }>;
 
-// Puts the answers to the lines that end in a chunk into a buffer with room for all of them: no line is shorter than its newline, and no
-// answer longer than 4096 bytes.
-fn answers(out: &mut [u8], chunk: &[u8], before: State) -> Progress
-    requires { 4096 * length chunk.now ≤ length out.old }
-    ensures line_value { result.line ≡ line_after before chunk.now }
-    ensures out_after { take result.end out.new ≡ answers_in before chunk.now }
-    ensures prefix_len { IsPrefixLen result.end out.new }
+// Appends the answers to the lines that end in a chunk, and gives the line that it leaves unended.
+fn answers(text: &mut Text<'_>, chunk: &[u8], before: State) -> State
+    ensures line_value { result ≡ line_after before chunk.now }
+    ensures appends { Extends (answers_in before chunk.now) text.old text.new }
 {
     let mut line = before;
-    let mut end = 0;
-    let mut i = 0;
-    while i < chunk.len() {
-        let byte = chunk[i];
+    for &byte in chunk {
         if byte == b'\n' {
-            end = answer(out, end, question::finish(line));
-            line = question::start();
+            answer(text, question::finish(line));
+            line = line::start();
         } else {
-            line = question::feed(line, byte);
+            line = line::feed(line, byte);
         }
-        i += 1;
     }
-    Progress { line, end }
+    line
 }
 
-// What a chunk of the input gave: the line that it leaves unended, the end of the answers to those that it ends, whether it had a byte, and
-// whether the input has ended. A read that fails has no byte, and ends no input.
+// What a chunk of the input gave: the line that it leaves unended, the end of the answers to those that it ends, and how many bytes were
+// read. A read that fails has no byte, and ends no input.
 #[derive(Clone, Copy)]
 struct Turn {
     line: State,
     end: usize,
-    more: bool,
-    ended: bool,
+    read: Result<usize, Failed>,
 }
 
-// Reads a chunk and puts its answers into a buffer. No contract can say which bytes were read.
+// Reads a chunk and puts its answers into a buffer with room for all of them: no line is shorter than its newline, and no answer longer
+// than 4096 bytes. No contract can say which bytes were read.
 fn next_chunk<R: Read, E: Write>(input: &mut R, errors: &mut E, out: &mut [u8], line: State) -> Turn
     requires { 4096 * 16 ≤ length out.old }
     ensures answered { Answered line result.line (take result.end out.new) }
     ensures prefix_len { IsPrefixLen result.end out.new }
 {
     let mut chunk = [0u8; 16];
-    let piece = stream::read(input, errors, b"standard input", &mut chunk);
-    let n = piece.count;
-    let p = answers(out, &chunk[..n], line);
-    let end = p.end;
-    let rest = p.line;
+    let read = stream::read(input, errors, b"standard input", &mut chunk);
+    let mut text = Text::new(out);
+    let after = answers(&mut text, &chunk[..read.unwrap_or(0)], line);
     Turn {
-        line: rest,
-        end,
-        more: n != 0,
-        ended: (n == 0) & !piece.failed,
+        line: after,
+        end: text.end,
+        read,
     }
 }
 
-// Appends the answer to the last line to an empty text. It may lack its newline, but what follows the last newline is no line where it is
-// empty, nor is what was read before a read or a write that failed.
-fn last(out: &mut [u8], line: State, ended: bool) -> usize
-    ensures appends { Appends (end_text ended line) out.old 0 out.new result }
-    ensures prefix_len { IsPrefixLen result out.new }
+// Appends the answer to the last line. It may lack its newline, but what follows the last newline is no line where it is empty, nor is
+// what was read before a read or a write that failed.
+fn last(text: &mut Text<'_>, line: State, ended: bool)
+    ensures { Extends (end_text ended line) text.old text.new }
 {
-    if !ended {
-        return 0;
+    if ended && line.count != 0 {
+        answer(text, question::finish(line));
     }
-    if line.count == 0 {
-        return 0;
-    }
-    answer(out, 0, question::finish(line))
 }
 
 // Puts the answer to a whole line into a buffer that has room for any answer.
@@ -117,62 +102,51 @@ fn answer_line(out: &mut [u8], line: &[u8]) -> usize
     ensures out_after { take result out.new ≡ answer_text (question_of line.now) }
     ensures prefix_len { IsPrefixLen result out.new }
 {
-    answer(out, 0, question::parse(line))
+    let mut text = Text::new(out);
+    answer(&mut text, question::parse(line));
+    text.end
 }
 
-// Writes the text at the start of a buffer. No contract can say what was written.
-fn write<W: Write, E: Write>(output: &mut W, errors: &mut E, out: &[u8], end: usize) -> bool
-    requires { IsPrefixLen end out.now }
-{
-    stream::write(output, errors, &out[..end])
-}
-
-// Answers the lines of standard input. A proved loop has to end, and nothing says that the input does: it counts down from a number that no
-// run uses up.
-fn answer_input<R: Read, W: Write, E: Write>(input: &mut R, output: &mut W, errors: &mut E) {
+// Answers the lines of standard input. No contract can say what was written. A proved loop has to end, and nothing says that the input
+// does: it counts up to a number that no run reaches.
+fn answer_input<R: Read, W: Write, E: Write>(
+    input: &mut R,
+    output: &mut W,
+    errors: &mut E,
+) -> Result<(), Failed> {
     let mut space = io::large_buffer();
     let out: &mut [u8] = &mut space;
-    let mut line = question::start();
+    let mut line = line::start();
     let mut ended = false;
-    let mut turns = u64::MAX;
-    while turns > 0 {
-        let t = next_chunk(input, errors, out, line);
-        line = t.line;
-        ended = t.ended;
-        if !(write(output, errors, out, t.end) & t.more) {
+    for _ in 0..u64::MAX {
+        let turn = next_chunk(input, errors, out, line);
+        line = turn.line;
+        ended = turn.read == Ok(0);
+        stream::write(output, errors, &out[..turn.end])?;
+        if turn.read.unwrap_or(0) == 0 {
             break;
         }
-        turns -= 1;
     }
-    let end = last(out, line, ended);
-    write(output, errors, out, end);
+    let mut text = Text::new(out);
+    last(&mut text, line, ended);
+    stream::write(output, errors, text.written())
 }
 
 // Appends an argument to a line, after a space where it isn't the first.
-fn add_argument<E: Env>(env: &E, line: &mut [u8], at: usize, i: usize) -> usize
-    requires { at ≤ length line.old }
-    ensures { result ≤ length line.new }
-{
+fn add_argument<E: Env>(env: &E, line: &mut Text<'_>, i: usize) {
     let mut one = io::buffer();
     let n = stream::argument(env, i, &mut one);
-    if i == 1 {
-        return text::append(line, at, &one[..n]);
+    if i != 1 {
+        line.append(b" ");
     }
-    let space = text::append(line, at, b" ");
-    text::append(line, space, &one[..n])
+    line.append(&one[..n]);
 }
 
 // The arguments as one line. What has no room is left out, and what is left is no line.
-fn arguments<E: Env>(env: &E, line: &mut [u8], count: usize) -> usize
-    ensures { IsPrefixLen result line.new }
-{
-    let mut end = 0;
-    let mut i = 1;
-    while i < count {
-        end = add_argument(env, line, end, i);
-        i += 1;
+fn arguments<E: Env>(env: &E, line: &mut Text<'_>, count: usize) {
+    for i in 1..count {
+        add_argument(env, line, i);
     }
-    end
 }
 
 const HELP: [u8; 562] = *b"\
@@ -188,36 +162,41 @@ const HELP: [u8; 562] = *b"\
     space. Every other line is `no line`.\n\
     ";
 
-fn help<W: Write, E: Write>(output: &mut W, errors: &mut E) {
-    let text = HELP;
-    stream::write(output, errors, &text);
+fn help<W: Write, E: Write>(output: &mut W, errors: &mut E) -> Result<(), Failed> {
+    stream::write(output, errors, &HELP)
 }
 
-// Answers the question that the arguments are.
+// Answers the question that the arguments are. No contract can say what was written.
 fn answer_arguments<A: Env, W: Write, E: Write>(
     env: &A,
     output: &mut W,
     errors: &mut E,
     count: usize,
-) {
-    let mut line = io::buffer();
-    let end = arguments(env, &mut line, count);
-    if &line[..end] == b"--help".as_slice() {
-        help(output, errors);
-        return;
+) -> Result<(), Failed> {
+    let mut space = io::buffer();
+    let mut line = Text::new(&mut space);
+    arguments(env, &mut line, count);
+    if line.written() == b"--help".as_slice() {
+        return help(output, errors);
     }
     let mut out = io::buffer();
-    let told = answer_line(&mut out, &line[..end]);
-    write(output, errors, &out, told);
+    let told = answer_line(&mut out, line.written());
+    stream::write(output, errors, &out[..told])
 }
 
-fn main(rt: HostRuntime) {
+// What the arguments ask for.
+fn run(rt: &HostRuntime) -> Result<(), Failed> {
     let mut output = rt.stdout();
     let mut errors = rt.stderr();
-    let count = stream::argument_count(&rt);
+    let count = stream::argument_count(rt);
     if count < 2 {
-        answer_input(&mut rt.stdin(), &mut output, &mut errors);
+        answer_input(&mut rt.stdin(), &mut output, &mut errors)
     } else {
-        answer_arguments(&rt, &mut output, &mut errors, count);
+        answer_arguments(rt, &mut output, &mut errors, count)
     }
+}
+
+// A failure was told where it came, and the program's status is 0 all the same.
+fn main(rt: HostRuntime) {
+    let _ = run(&rt);
 }

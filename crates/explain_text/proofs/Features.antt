@@ -28,8 +28,8 @@ use Rattle.rule.specs.Has.{sort_rule, edition_rule}
 use Rattle.rule.specs.Has.{lawful, has}
 use Rattle.fault_code.proofs.Masks.{no_code, no_instruction_code}
 use Rattle.syndrome.specs.Reading.{has_word, read_of}
-use Rattle.syndrome.specs.declared.answer.Read.{Read}
 use Rattle.syndrome.proofs.Refusals.{read_six_exactly}
+use Rattle.std.specs.Prelude.{Err}
 
 -- the features that are named fit exactly the mask's editions
 abbrev exactly : ℕ → Bool
@@ -132,7 +132,7 @@ module _ (o : Origin) where
       go false = tt
 
   -- WITH REFUSAL 6 the editions that fit the features that are named are exactly the mask's
-  pub named_exactly : (e : ℕ) (esr : Esr) (mask count : ℕ) → read_of o e esr ≡ Read.Refused (OtherEditions mask count)
+  pub named_exactly : (e : ℕ) (esr : Esr) (mask count : ℕ) → read_of o e esr ≡ Err (OtherEditions mask count)
       → mask_of (fits (asked_by false mask)) ≡ mask
   unfolding mask_of
   named_exactly e esr mask count refused =

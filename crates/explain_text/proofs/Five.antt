@@ -16,10 +16,10 @@ use Rattle.registers.specs.declared.Esr.{Esr}
 use Rattle.refusal_text.proofs.Why.{told}
 use Rattle.syndrome.specs.Answer.{read_said}
 use Rattle.syndrome.specs.Reading.{has_word, read_of}
-use Rattle.syndrome.specs.declared.answer.Read.{Read}
 use Rattle.syndrome.proofs.Refusals.{read_refused_exactly}
+use Rattle.std.specs.Prelude.{Err}
 
-pub rule_named : (e : ℕ) (esr : Esr) → read_of Origin.AArch32 e esr ≡ Read.Refused NoEdition → why_of esr.0 ≡ 0 → ⊥
+pub rule_named : (e : ℕ) (esr : Esr) → read_of Origin.AArch32 e esr ≡ Err NoEdition → why_of esr.0 ≡ 0 → ⊥
 unfolding Form.has_word
 rule_named e esr is why =
     let w = esr.0 in
@@ -30,5 +30,5 @@ rule_named e esr is why =
     true≢false (sym had.2 ∙ mask_zero 16 (λ x. has_word Origin.AArch32 x w) none had.0 (ltb-true had.0 16 had.1))
 
 -- of which something is said
-pub rule_told : (e : ℕ) (esr : Esr) → read_of Origin.AArch32 e esr ≡ Read.Refused NoEdition → told (why_of esr.0) ≡ true
+pub rule_told : (e : ℕ) (esr : Esr) → read_of Origin.AArch32 e esr ≡ Err NoEdition → told (why_of esr.0) ≡ true
 rule_told e esr is = among_all rule_numbers told tt (why_of esr.0) (why_number esr.0 (rule_named e esr is))

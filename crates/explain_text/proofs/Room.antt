@@ -10,7 +10,6 @@ use lib.ListN.{length, length-append}
 use Rattle.registers.specs.declared.Far.{Far}
 use Rattle.registers.specs.declared.Hpfar.{Hpfar}
 use Rattle.address.specs.declared.IntermediateAddress.{IntermediateAddress}
-use Rattle.address.specs.declared.VirtualAddress.{VirtualAddress}
 use Rattle.bits.specs.Field.{field_of}
 use Rattle.edition.specs.Feature.{lpa}
 use Rattle.edition.specs.Judge.{refusal_number}
@@ -24,17 +23,17 @@ use Rattle.refusal_text.specs.Refusal.{refusal_text}
 use Rattle.refusal_text.specs.Why.{why_text}
 use Rattle.refusal_text.proofs.Room.{refusal_length, why_length}
 use Rattle.syndrome.specs.Reading.{read_of}
-use Rattle.syndrome.specs.declared.answer.Read.{Read}
 use Rattle.text.specs.Ascii.{ascii}
 use Rattle.text.proofs.Numerals.{hex_length}
 use Rattle.trap.specs.Answer.{answer_of}
-use Rattle.trap.specs.declared.Answer.{Answer}
 use Rattle.trap.specs.declared.Trap.{Trap}
 use Rattle.trap_refusal.specs.declared.TrapRefusal.{TrapRefusal}
 use Rattle.explain_text.specs.Word.{word_said}
 use Rattle.explain_text.specs.Trap.{virtual_text, intermediate_text, addresses_text, hpfar_text, trap_said}
 use Rattle.explain_text.specs.Inner.{others_lines, refused_lines, read_lines, answer_lines}
 use Rattle.explain_text.proofs.Said.{read_said_lem, answer_said_lem}
+use Rattle.record.specs.declared.kinds.Record.{Record}
+use Rattle.std.specs.Prelude.{Result, Ok, Err, Option, Some, None}
 
 -- the fields of a word
 word_length : (w : ℕ) → length (word_text w) ≤ 3120
@@ -59,26 +58,26 @@ refused_length w refusal =
 taken_length : (w : ℕ) → length (ascii "taken\n" ++ word_text w) ≤ 3126
 taken_length w = joined (ascii "taken\n") (word_text w) 6 3120 (omega arith) (word_length w) (omega arith)
 
-read_length : (w : ℕ) (a : Read) → length (read_lines w a) ≤ 3632
-read_length w (Read.Taken r) = omega (arith, taken_length w)
-read_length w (Read.Refused refusal) = omega (arith, refused_length w refusal)
+read_length : (w : ℕ) (a : Result Record Refusal) → length (read_lines w a) ≤ 3632
+read_length w (Ok r) = omega (arith, taken_length w)
+read_length w (Err refusal) = omega (arith, refused_length w refusal)
 
-virtual_length : (a : VirtualAddress) → length (virtual_text a) ≤ 100
-virtual_length (VirtualAddress.Known address) = simp length-append (omega (arith, hex_length address))
-virtual_length VirtualAddress.Unknown = omega arith
+virtual_length : (a : Option ℕ) → length (virtual_text a) ≤ 100
+virtual_length (Some address) = simp length-append (omega (arith, hex_length address))
+virtual_length None = omega arith
 
-intermediate_length : (a : IntermediateAddress) → length (intermediate_text a) ≤ 100
-intermediate_length IntermediateAddress.None = omega arith
-intermediate_length (IntermediateAddress.Page address) = simp length-append (omega (arith, hex_length address))
-intermediate_length (IntermediateAddress.Byte address) = simp length-append (omega (arith, hex_length address))
+intermediate_length : (a : Option IntermediateAddress) → length (intermediate_text a) ≤ 100
+intermediate_length None = omega arith
+intermediate_length (Some (IntermediateAddress.Page address)) = simp length-append (omega (arith, hex_length address))
+intermediate_length (Some (IntermediateAddress.Byte address)) = simp length-append (omega (arith, hex_length address))
 
 addresses_length : (t : Trap) → length (addresses_text t) ≤ 200
 addresses_length (Trap.Abort t) =
     joined (virtual_text t.address) (intermediate_text t.intermediate) 100 100 (virtual_length t.address)
     (intermediate_length t.intermediate) (omega arith)
 addresses_length (Trap.Addressed t) =
-    joined (virtual_text (VirtualAddress.Known t.address)) (ascii "no intermediate address: this class has none\n") 100 100
-    (virtual_length (VirtualAddress.Known t.address)) (omega arith) (omega arith)
+    joined (virtual_text (Some t.address)) (ascii "no intermediate address: this class has none\n") 100 100
+    (virtual_length (Some t.address)) (omega arith) (omega arith)
 addresses_length (Trap.Plain r) = omega arith
 
 hpfar_length : (e : ℕ) → length (hpfar_text e) ≤ 100
@@ -91,13 +90,13 @@ hpfar_length e = go (lpa e)
     go true = omega arith
     go false = omega arith
 
-trap_length : (e w : ℕ) (a : Answer) → length (answer_lines e w a) ≤ 3632
-trap_length e w (Answer.Shown t) =
+trap_length : (e w : ℕ) (a : Result Trap TrapRefusal) → length (answer_lines e w a) ≤ 3632
+trap_length e w (Ok t) =
     joined (ascii "taken\n" ++ word_text w) (addresses_text t) 3126 200 (taken_length w) (addresses_length t) (omega arith)
-trap_length e w (Answer.Refused (TrapRefusal.Syndrome refusal)) = omega (arith, refused_length w refusal)
-trap_length e w (Answer.Refused TrapRefusal.Hpfar) =
+trap_length e w (Err (TrapRefusal.Syndrome refusal)) = omega (arith, refused_length w refusal)
+trap_length e w (Err TrapRefusal.Hpfar) =
     joined (hpfar_text e) (word_text w) 100 3120 (hpfar_length e) (word_length w) (omega arith)
-trap_length e w (Answer.Refused TrapRefusal.Far) =
+trap_length e w (Err TrapRefusal.Far) =
     joined (ascii "refused 8: bits 63:32 of FAR are not zero\n") (word_text w) 100 3120 (omega arith) (word_length w) (omega arith)
 
 pub word_said_length : (e : ℕ) (esr : Esr) → length (word_said e esr) ≤ 3632

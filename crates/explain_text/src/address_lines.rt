@@ -1,73 +1,62 @@
 // The addresses of a trap, and why one is missing.
 ghost use Rattle.std.specs.Prelude.{◌++◌};
-ghost use Rattle.text.specs.Append.{Appends};
+ghost use Rattle.text.specs.Append.{Extends};
 ghost use Rattle.text.specs.Ascii.{ascii};
 ghost use Rattle.explain_text.specs.Trap.{virtual_text, intermediate_text, addresses_text};
 
-use address::{IntermediateAddress, VirtualAddress};
+use address::IntermediateAddress;
+use text::Text;
 use trap::Trap;
 
-fn virtual_line(out: &mut [u8], at: usize, address: VirtualAddress) -> usize
-    ensures { Appends (virtual_text address) out.old at out.new result }
+fn virtual_line(text: &mut Text<'_>, address: Option<u64>)
+    ensures { Extends (virtual_text address) text.old text.new }
 {
     match address {
-        VirtualAddress::Known(a) => {
-            let word = text::append(out, at, b"virtual address 0x");
-            let number = text::append_hex(out, word, a);
-            text::append(out, number, b": FAR\n")
+        Some(a) => {
+            text.append(b"virtual address 0x");
+            text.append_hex(a);
+            text.append(b": FAR\n");
         }
-        VirtualAddress::Unknown => text::append(
-            out,
-            at,
+        None => text.append(
             b"virtual address not known: FnV is 1, and FAR holds an UNKNOWN value\n",
         ),
     }
 }
 
-fn intermediate_line(out: &mut [u8], at: usize, address: IntermediateAddress) -> usize
-    ensures { Appends (intermediate_text address) out.old at out.new result }
+fn intermediate_line(text: &mut Text<'_>, address: Option<IntermediateAddress>)
+    ensures { Extends (intermediate_text address) text.old text.new }
 {
-    match address {
-        IntermediateAddress::None => text::append(
-            out,
-            at,
+    let Some(known) = address else {
+        text.append(
             b"intermediate address not known: this code, with this S1PTW, leaves HPFAR UNKNOWN\n",
-        ),
+        );
+        return;
+    };
+    text.append(b"intermediate address 0x");
+    match known {
         IntermediateAddress::Page(a) => {
-            let word = text::append(out, at, b"intermediate address 0x");
-            let number = text::append_hex(out, word, a);
-            text::append(
-                out,
-                number,
-                b": the page in HPFAR alone, since S1PTW is 1\n",
-            )
+            text.append_hex(a);
+            text.append(b": the page in HPFAR alone, since S1PTW is 1\n");
         }
         IntermediateAddress::Byte(a) => {
-            let word = text::append(out, at, b"intermediate address 0x");
-            let number = text::append_hex(out, word, a);
-            text::append(out, number, b": the page in HPFAR with FAR 11:0\n")
+            text.append_hex(a);
+            text.append(b": the page in HPFAR with FAR 11:0\n");
         }
     }
 }
 
-pub(crate) fn addresses(out: &mut [u8], at: usize, t: Trap) -> usize
-    ensures { Appends (addresses_text t) out.old at out.new result }
+pub(crate) fn addresses(text: &mut Text<'_>, t: Trap)
+    ensures { Extends (addresses_text t) text.old text.new }
 {
     match t {
         Trap::Abort(a) => {
-            let address = a.address;
-            let intermediate = a.intermediate;
-            let first = virtual_line(out, at, address);
-            intermediate_line(out, first, intermediate)
+            virtual_line(text, a.address);
+            intermediate_line(text, a.intermediate);
         }
         Trap::Addressed(a) => {
-            let first = virtual_line(out, at, VirtualAddress::Known(a.address));
-            text::append(
-                out,
-                first,
-                b"no intermediate address: this class has none\n",
-            )
+            virtual_line(text, Some(a.address));
+            text.append(b"no intermediate address: this class has none\n");
         }
-        Trap::Plain(_) => text::append(out, at, b"no address: this class has none\n"),
+        Trap::Plain(_) => text.append(b"no address: this class has none\n"),
     }
 }

@@ -1,4 +1,4 @@
-// What is said of a syndrome word and of a whole trap from AArch32, as lines of text appended to a buffer as `text::append` does.
+// What is said of a syndrome word and of a whole trap from AArch32, as lines appended to a text.
 #![tactic(auto)]
 
 mod address_lines;

@@ -1,4 +1,5 @@
 -- Where a DFSR has the domain (02, C-21): laws over every row of the table of faults.
+use Rattle.std.specs.Prelude.{Option, Some, None, option_map}
 use mathlib.Core.Path.{◌≡◌, refl, sym, ap, ◌∙◌}
 use mathlib.Core.Bool.{Bool, true, false, cond, not, ◌&&◌, true≢false}
 use mathlib.Core.Logic.{◌⊎◌, inl, inr, ⊎_elim, ◌↔◌}
@@ -11,9 +12,7 @@ use Rattle.bits.proofs.Arms.{absurd_answer}
 use Rattle.fault.specs.declared.Fault.{Fault}
 use Rattle.fault.specs.declared.Fault.TheVariants.{External, Translation, AccessFlag, Permission, Alignment}
 use Rattle.fault.specs.declared.Row.{Row}
-use Rattle.fault.specs.declared.Encoding.{Encoding}
-use Rattle.fault.specs.declared.Encoding.TheVariants.{Code, Unwritable}
-use Rattle.fault.specs.Fault.{fault_row, is_long, column, status_word, on_code, status_of, write_bit, domain_in, dfsr_of}
+use Rattle.fault.specs.Fault.{fault_row, is_long, column, status_word, status_of, write_bit, domain_in, dfsr_of}
 use Rattle.fault.specs.Base.{base_dfsr}
 
 -- THE TWO CASES: a level 2 translation fault and a level 2 access flag fault are the faults whose row has the domain
@@ -28,28 +27,28 @@ two_faults f = (only f, ⊎_elim (ap (λ (g : Fault). (fault_row g).domain)) (ap
     only Alignment e = absurd (true≢false (sym e))
 
 -- nothing added to the status
-bare : (write : Bool) {n : ℕ} (e : Encoding) → n ≡ 0 → on_code (λ w. write_bit write + (n + w)) e ≡ on_code (λ w. write_bit write + w) e
-bare write (Code w) z =
-    ap (λ (n : ℕ). Code (write_bit write + (n + w))) z ∙ ap (λ (n : ℕ). Code (write_bit write + n)) (zero-add w)
-bare write Unwritable z = refl
+bare : (write : Bool) {n : ℕ} (e : Option ℕ) → n ≡ 0 → option_map (λ w. write_bit write + (n + w)) e ≡ option_map (λ w. write_bit write + w) e
+bare write (Some w) z =
+    ap (λ (n : ℕ). Some (write_bit write + (n + w))) z ∙ ap (λ (n : ℕ). Some (write_bit write + n)) (zero-add w)
+bare write None z = refl
 
 -- bits 7:4 of a word of the short format
-field_7_4 : (has write : Bool) (e : Encoding) (domain : ℕ) {w : ℕ} → domain < 16
-    → on_code (λ s. write_bit write + (cond (has && true) (field_of domain 3 0 * 2 ^ 4) 0 + s)) (on_code (λ c. status_word c false) e) ≡ Code w
+field_7_4 : (has write : Bool) (e : Option ℕ) (domain : ℕ) {w : ℕ} → domain < 16
+    → option_map (λ s. write_bit write + (cond (has && true) (field_of domain 3 0 * 2 ^ 4) 0 + s)) (option_map (λ c. status_word c false) e) ≡ Some w
     → field_of w 7 4 ≡ cond has domain 0
-field_7_4 true true (Code c) d {w} h p =
+field_7_4 true true (Some c) d {w} h p =
     let q : 2 ^ 11 + (d / 2 ^ 0 % 2 ^ 4 * 2 ^ 4 + (c / 2 ^ 4 % 2 * 2 ^ 10 + c / 2 ^ 0 % 2 ^ 4)) ≡ w = cc in
     omega arith
-field_7_4 true false (Code c) d {w} h p =
+field_7_4 true false (Some c) d {w} h p =
     let q : 0 + (d / 2 ^ 0 % 2 ^ 4 * 2 ^ 4 + (c / 2 ^ 4 % 2 * 2 ^ 10 + c / 2 ^ 0 % 2 ^ 4)) ≡ w = cc in
     omega arith
-field_7_4 false true (Code c) d {w} h p =
+field_7_4 false true (Some c) d {w} h p =
     let q : 2 ^ 11 + (0 + (c / 2 ^ 4 % 2 * 2 ^ 10 + c / 2 ^ 0 % 2 ^ 4)) ≡ w = cc in
     omega arith
-field_7_4 false false (Code c) d {w} h p =
+field_7_4 false false (Some c) d {w} h p =
     let q : 0 + (0 + (c / 2 ^ 4 % 2 * 2 ^ 10 + c / 2 ^ 0 % 2 ^ 4)) ≡ w = cc in
     omega arith
-field_7_4 has write Unwritable d h p = absurd_answer (cc)
+field_7_4 has write None d h p = absurd_answer (cc)
 
 module _ (row : Row) (write : Bool) (ttbcr : ℕ) where
   -- OUTSIDE THE TWO CASES, and in the long format, no domain changes anything: DFSR is what it was before C-21
@@ -67,10 +66,10 @@ module _ (row : Row) (write : Bool) (ttbcr : ℕ) where
       nothing false = refl
 
   -- WHAT THE GUEST READS in the short format: bits 7:4 are the domain in the two cases, and else 0
-  pub domain_read : (domain : ℕ) {w : ℕ} → is_long ttbcr ≡ false → domain < 16 → dfsr_of row write domain ttbcr ≡ Code w
+  pub domain_read : (domain : ℕ) {w : ℕ} → is_long ttbcr ≡ false → domain < 16 → dfsr_of row write domain ttbcr ≡ Some w
       → field_of w 7 4 ≡ cond row.domain domain 0
   unfolding dfsr_of status_of
   domain_read domain short h e =
       field_7_4 row.domain write (column row false) domain h
-      (ap (λ (long : Bool). on_code (λ s. write_bit write + (domain_in row long domain + s))
-      (on_code (λ c. status_word c long) (column row long))) (sym short) ∙ e)
+      (ap (λ (long : Bool). option_map (λ s. write_bit write + (domain_in row long domain + s))
+      (option_map (λ c. status_word c long) (column row long))) (sym short) ∙ e)

@@ -1,5 +1,6 @@
 -- Which faults can be written, in plain words: a level of 1 to 3 in the long format and of 1 or 2 in the short, and no alignment fault in a
 -- prefetch abort.
+use Rattle.std.specs.Prelude.{Option, Some, None, option_map}
 use mathlib.Core.Path.{◌≡◌, refl, ap, ◌∙◌}
 use mathlib.Core.Bool.{Bool, true, false, cond, not, ◌&&◌}
 use Prim.Native.Nat.{ℕ, zero, suc, ◌+◌, ◌≤◌, ◌<◌}
@@ -8,9 +9,7 @@ use lib.Dec.{leb}
 use borrow.Author.Tests.{ne_eqb, le-leb, lt-leb}
 use Rattle.fault.specs.declared.Fault.{Fault}
 use Rattle.fault.specs.declared.Fault.TheVariants.{External, Translation, AccessFlag, Permission, Alignment}
-use Rattle.fault.specs.declared.Encoding.{Encoding}
-use Rattle.fault.specs.declared.Encoding.TheVariants.{Code, Unwritable}
-use Rattle.fault.specs.Fault.{by_level, fault_row, is_long, column, status_word, on_code, status_of, is_alignment, ifsr_word, write_bit}
+use Rattle.fault.specs.Fault.{by_level, fault_row, is_long, column, status_word, status_of, is_alignment, ifsr_word, write_bit}
 use Rattle.fault.specs.Fault.{domain_in, dfsr_of, dfsr_word, is_code}
 
 -- the level is one that the format has
@@ -29,7 +28,7 @@ top : (b : Bool) → cond b 3 2 < 4
 top true = omega arith
 top false = omega arith
 
-above : (x y : ℕ) (z : Encoding) (b : Bool) (l : ℕ) → 4 ≤ l → is_code (by_level l x y z) ≡ has_level b l
+above : (x y : ℕ) (z : Option ℕ) (b : Bool) (l : ℕ) → 4 ≤ l → is_code (by_level l x y z) ≡ has_level b l
 unfolding by_level
 above x y z b l h =
     let k = top b in
@@ -43,18 +42,18 @@ above x y z b l h =
     )
 
 -- a row of the table, by whether it has a level 3
-levels : (x y : ℕ) (z : Encoding) (l : ℕ) → is_code (by_level l x y z) ≡ has_level (is_code z) l
+levels : (x y : ℕ) (z : Option ℕ) (l : ℕ) → is_code (by_level l x y z) ≡ has_level (is_code z) l
 unfolding by_level
-levels x y (Code z) zero = refl
-levels x y (Code z) (suc zero) = refl
-levels x y (Code z) (suc (suc zero)) = refl
-levels x y (Code z) (suc (suc (suc zero))) = refl
-levels x y (Code z) (suc (suc (suc (suc l)))) = above x y (Code z) true (suc (suc (suc (suc l)))) (omega arith)
-levels x y Unwritable zero = refl
-levels x y Unwritable (suc zero) = refl
-levels x y Unwritable (suc (suc zero)) = refl
-levels x y Unwritable (suc (suc (suc zero))) = refl
-levels x y Unwritable (suc (suc (suc (suc l)))) = above x y Unwritable false (suc (suc (suc (suc l)))) (omega arith)
+levels x y (Some z) zero = refl
+levels x y (Some z) (suc zero) = refl
+levels x y (Some z) (suc (suc zero)) = refl
+levels x y (Some z) (suc (suc (suc zero))) = refl
+levels x y (Some z) (suc (suc (suc (suc l)))) = above x y (Some z) true (suc (suc (suc (suc l)))) (omega arith)
+levels x y None zero = refl
+levels x y None (suc zero) = refl
+levels x y None (suc (suc zero)) = refl
+levels x y None (suc (suc (suc zero))) = refl
+levels x y None (suc (suc (suc (suc l)))) = above x y None false (suc (suc (suc (suc l)))) (omega arith)
 
 coded : (f : Fault) (long : Bool) → is_code (column (fault_row f) long) ≡ has_code long f
 coded External true = refl
@@ -68,16 +67,16 @@ coded (Permission l) false = levels _ _ _ l
 coded Alignment true = refl
 coded Alignment false = refl
 
-still : (f : ℕ → ℕ) (e : Encoding) → is_code (on_code f e) ≡ is_code e
-still f (Code c) = refl
-still f Unwritable = refl
+still : (f : ℕ → ℕ) (e : Option ℕ) → is_code (option_map f e) ≡ is_code e
+still f (Some c) = refl
+still f None = refl
 
 status_written : (f : Fault) (t : ℕ) → is_code (status_of (fault_row f) t) ≡ has_code (is_long t) f
 unfolding status_of
 status_written f t = still (λ c. status_word c (is_long t)) (column (fault_row f) (is_long t)) ∙ coded f (is_long t)
 
 -- a fault for data only is not written
-but : (b : Bool) (e : Encoding) → is_code (cond b Unwritable e) ≡ (not b && is_code e)
+but : (b : Bool) (e : Option ℕ) → is_code (cond b None e) ≡ (not b && is_code e)
 but true e = refl
 but false e = refl
 

@@ -8,7 +8,8 @@ ghost use Rattle.fault.specs.Fault.{domain_in, dfsr_of, dfsr_word, is_code, code
 use bits::bit;
 
 // A fault with the level of the lookup that gave it, where the fault has a level.
-#[derive(Clone, Copy)]
+// Kept: a level is any byte, of which `fetch_writable` and `access_writable` (proofs/Levels.antt) tell the ones that are written.
+#[derive(Clone, Copy, PartialEq, Eq)]
 pub enum Fault {
     External,
     Translation(u8),
@@ -17,30 +18,25 @@ pub enum Fault {
     Alignment,
 }
 
-// How a fault is written in a code field or in a register, or that it can't be.
-#[derive(Clone, Copy)]
-pub enum Encoding {
-    Code(u32),
-    Unwritable,
-}
-
-// A row of the table: FS of the short format, STATUS of the long, and whether the short format's DFSR has the domain.
+// A row of the table: FS of the short format, STATUS of the long, none where a format can't write the fault, and whether the short
+// format's DFSR has the domain.
 #[derive(Clone, Copy)]
 struct Row {
-    short: Encoding,
-    long: Encoding,
+    short: Option<u32>,
+    long: Option<u32>,
     domain: bool,
 }
 
 // The code of a level: those of levels 1 and 2, and what stands at level 3.
-fn by_level(level: u8, first: u32, second: u32, third: Encoding) -> Encoding
+#[tactic(auto, unfolding(crate::specs::Fault::by_level))]
+fn by_level(level: u8, first: u32, second: u32, third: Option<u32>) -> Option<u32>
     ensures { result ≡ by_level level first second third }
 {
     match level {
-        1 => Encoding::Code(first),
-        2 => Encoding::Code(second),
+        1 => Some(first),
+        2 => Some(second),
         3 => third,
-        _ => Encoding::Unwritable,
+        _ => None,
     }
 }
 
@@ -50,8 +46,8 @@ fn levelled(level: u8, s1: u32, s2: u32, l1: u32, l2: u32, l3: u32, domain: bool
     ensures { result ≡ levelled level s1 s2 l1 l2 l3 domain }
 {
     Row {
-        short: by_level(level, s1, s2, Encoding::Unwritable),
-        long: by_level(level, l1, l2, Encoding::Code(l3)),
+        short: by_level(level, s1, s2, None),
+        long: by_level(level, l1, l2, Some(l3)),
         domain: domain & (level == 2),
     }
 }
@@ -61,16 +57,16 @@ fn fault_row(fault: Fault) -> Row
 {
     match fault {
         Fault::External => Row {
-            short: Encoding::Code(0b01000),
-            long: Encoding::Code(0b010000),
+            short: Some(0b01000),
+            long: Some(0b010000),
             domain: false,
         },
         Fault::Translation(l) => levelled(l, 0b00101, 0b00111, 0b000101, 0b000110, 0b000111, true),
         Fault::AccessFlag(l) => levelled(l, 0b00011, 0b00110, 0b001001, 0b001010, 0b001011, true),
         Fault::Permission(l) => levelled(l, 0b01101, 0b01111, 0b001101, 0b001110, 0b001111, false),
         Fault::Alignment => Row {
-            short: Encoding::Code(0b00001),
-            long: Encoding::Code(0b100001),
+            short: Some(0b00001),
+            long: Some(0b100001),
             domain: false,
         },
     }
@@ -84,7 +80,7 @@ fn is_long(ttbcr: u32) -> bool
 }
 
 // The format's column.
-fn column(row: Row, long: bool) -> Encoding
+fn column(row: Row, long: bool) -> Option<u32>
     ensures { result ≡ column row long }
 {
     if long { row.long } else { row.short }
@@ -92,6 +88,7 @@ fn column(row: Row, long: bool) -> Encoding
 
 // The code in its place. Long: bit 9 marks the format, STATUS is in bits 5:0. Short: FS bit 4 is in bit 10, FS 3:0 in
 // bits 3:0.
+#[tactic(auto, using(crate::proofs::Masks::long_status, crate::proofs::Masks::short_status))]
 fn status_word(code: u32, long: bool) -> u32
     ensures { result ≡ status_word code long }
 {
@@ -103,41 +100,34 @@ fn status_word(code: u32, long: bool) -> u32
 }
 
 // The code in the format that TTBCR chooses.
-fn status_of(row: Row, ttbcr: u32) -> Encoding
+#[tactic(auto, unfolding(crate::specs::Fault::status_of))]
+fn status_of(row: Row, ttbcr: u32) -> Option<u32>
     ensures { result ≡ status_of row ttbcr }
 {
     let long = is_long(ttbcr);
-    match column(row, long) {
-        Encoding::Code(code) => Encoding::Code(status_word(code, long)),
-        Encoding::Unwritable => Encoding::Unwritable,
-    }
+    column(row, long).map(|code| status_word(code, long))
 }
 
 // An alignment fault, which no instruction fetch has.
 fn is_alignment(fault: Fault) -> bool
     ensures { result ≡ is_alignment fault }
 {
-    match fault {
-        Fault::External => false,
-        Fault::Translation(_) => false,
-        Fault::AccessFlag(_) => false,
-        Fault::Permission(_) => false,
-        Fault::Alignment => true,
-    }
+    fault == Fault::Alignment
 }
 
 // IFSR of a prefetch abort.
-pub fn ifsr_word(fault: Fault, ttbcr: u32) -> Encoding
+pub fn ifsr_word(fault: Fault, ttbcr: u32) -> Option<u32>
     ensures { result ≡ ifsr_word fault ttbcr }
 {
     if is_alignment(fault) {
-        Encoding::Unwritable
+        None
     } else {
         status_of(fault_row(fault), ttbcr)
     }
 }
 
 // What the domain adds to a DFSR: its four bits at 7:4, in the short format of a fault that has one.
+#[tactic(auto, using(crate::proofs::Masks::domain_moved))]
 fn domain_in(row: Row, long: bool, domain: u8) -> u32
     ensures { result ≡ domain_in row long domain }
 {
@@ -149,47 +139,36 @@ fn domain_in(row: Row, long: bool, domain: u8) -> u32
 }
 
 // Every DFSR is made here: the status, the domain, and WnR, bit 11, which is set for a write.
-fn dfsr_of(row: Row, write: bool, domain: u8, ttbcr: u32) -> Encoding
+#[tactic(auto, unfolding(crate::specs::Fault::dfsr_of))]
+fn dfsr_of(row: Row, write: bool, domain: u8, ttbcr: u32) -> Option<u32>
     ensures { result ≡ dfsr_of row write domain ttbcr }
 {
-    match status_of(row, ttbcr) {
-        Encoding::Code(status) => {
-            let word = status | domain_in(row, is_long(ttbcr), domain);
-            if write {
-                Encoding::Code(word | 0x800)
-            } else {
-                Encoding::Code(word)
-            }
-        }
-        Encoding::Unwritable => Encoding::Unwritable,
-    }
+    let status = status_of(row, ttbcr)?;
+    let word = status | domain_in(row, is_long(ttbcr), domain);
+    Some(if write { word | 0x800 } else { word })
 }
 
 // DFSR of a data abort.
-pub fn dfsr_word(fault: Fault, write: bool, domain: u8, ttbcr: u32) -> Encoding
+pub fn dfsr_word(fault: Fault, write: bool, domain: u8, ttbcr: u32) -> Option<u32>
     ensures { result ≡ dfsr_word fault write domain ttbcr }
 {
     dfsr_of(fault_row(fault), write, domain, ttbcr)
 }
 
 // Whether a fault can be written.
-pub fn is_code(encoding: Encoding) -> bool
+// Kept: `fetch_writable` and `access_writable` name it, and the edit unwritable_taken.
+pub fn is_code(encoding: Option<u32>) -> bool
     ensures { result ≡ is_code encoding }
 {
-    match encoding {
-        Encoding::Code(_) => true,
-        Encoding::Unwritable => false,
-    }
+    encoding.is_some()
 }
 
 // The word of a fault that can be written.
-pub fn code_in(encoding: Encoding) -> u32
+// Kept: `asynchronous_dfsr` and `faults_after` name it, and the edit word_lost.
+pub fn code_in(encoding: Option<u32>) -> u32
     ensures { result ≡ code_in encoding }
 {
-    match encoding {
-        Encoding::Code(word) => word,
-        Encoding::Unwritable => 0,
-    }
+    encoding.unwrap_or(0)
 }
 
 // DFSR of a virtual abort: an asynchronous external abort, which no injection carries.
@@ -197,8 +176,8 @@ pub fn asynchronous_dfsr(domain: u8, ttbcr: u32) -> u32
     ensures { result ≡ asynchronous_dfsr domain ttbcr }
 {
     let asynchronous = Row {
-        short: Encoding::Code(0b10110),
-        long: Encoding::Code(0b010001),
+        short: Some(0b10110),
+        long: Some(0b010001),
         domain: false,
     };
     code_in(dfsr_of(asynchronous, false, domain, ttbcr))

@@ -80,6 +80,7 @@ const INSTRUCTION_CODES: [u32; 64] = [
 ];
 
 // The editions that have each fault code of a data abort.
+// Kept: one fixed table of 64 masks for each abort is the form that was asked for (docs/DEMANDS.md, "Places and their forms").
 const DATA_CODES: [u32; 64] = [
     ALL, // 0x00
     ALL, // 0x01

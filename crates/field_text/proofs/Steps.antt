@@ -7,12 +7,11 @@ use native.Mathlib.Omega.{arith}
 use Rattle.names.proofs.Tables.{past_end}
 use Rattle.field_text.specs.Rows.{shape_firsts, shape_counts, row_in, row_text, rows_from, rows_text, shape_rows, shape_text}
 
-pub next_row : (w first n i : ℕ) → i < n
-    → rows_text w (rows_from w (first + i) (n - i))
-    ≡ row_text w (row_in w (first + i)) ++ rows_text w (rows_from w (first + (i + 1)) (n - (i + 1)))
-next_row w first n i h =
-    let more : n - i ≡ suc (n - (i + 1)) = omega arith in
-    let on : first + (i + 1) ≡ suc (first + i) = omega arith in
+pub next_row : (w i end : ℕ) → i < end
+    → rows_text w (rows_from w i (end - i)) ≡ row_text w (row_in w i) ++ rows_text w (rows_from w (i + 1) (end - (i + 1)))
+next_row w i end h =
+    let more : end - i ≡ suc (end - (i + 1)) = omega arith in
+    let on : i + 1 ≡ suc i = omega arith in
     rw (more, on)
 
 -- a shape that there is none of has none

@@ -2,33 +2,30 @@
 #![tactic(auto)]
 
 ghost use Rattle.std.specs.Prelude.{◌+◌, ◌≤◌};
-ghost use Rattle.text.specs.Append.{Appends};
+ghost use Rattle.text.specs.Append.{Extends};
 ghost use Rattle.field_text.specs.Rows.{rows_from, rows_text, shape_text};
 
 mod field;
 mod shape;
 mod test;
 
+use text::Text;
+
 // n rows from the first on, over a word.
-fn rows_lines(out: &mut [u8], at: usize, word: u64, first: usize, n: usize) -> usize
+fn rows_lines(text: &mut Text<'_>, word: u64, first: usize, n: usize)
     requires { first + n ≤ 165 }
-    ensures { Appends (rows_text word (rows_from word first n)) out.old at out.new result }
+    ensures { Extends (rows_text word (rows_from word first n)) text.old text.new }
 {
-    let mut end = at;
-    let mut i = 0;
-    while i < n {
-        end = shape::row_line(out, end, word, first + i);
-        i += 1;
+    for i in first..first + n {
+        shape::row_line(text, word, i);
     }
-    end
 }
 
 // The lines of a shape over a word, of which a shape that there is none of has none.
-pub fn lines(out: &mut [u8], at: usize, shape: usize, word: u64) -> usize
-    ensures { Appends (shape_text shape word) out.old at out.new result }
+pub fn lines(text: &mut Text<'_>, shape: usize, word: u64)
+    ensures { Extends (shape_text shape word) text.old text.new }
 {
     if shape < shape::SHAPES {
-        return rows_lines(out, at, word, shape::first(shape), shape::count(shape));
+        rows_lines(text, word, shape::first(shape), shape::count(shape));
     }
-    at
 }

@@ -1,15 +1,17 @@
 // The rows: for each shape of word its fields, from the highest, each with its label, its bits and the lists of its values. Labels and lists
 // have their numbers in crate `names`. Which shape a word has goes by its class, and is said where a form's records are put into words.
 ghost use Rattle.std.specs.Prelude.{◌<◌, ◌≡◌, get_or};
-ghost use Rattle.text.specs.Append.{Appends};
+ghost use Rattle.text.specs.Append.{Extends};
 ghost use Rattle.names.specs.Table.{values_at};
 ghost use Rattle.field_text.specs.Rows.{values_in, row_text, row_in, shape_firsts, shape_counts};
 
 use super::field::field_line;
 use super::test::holds;
+use text::Text;
 
 pub(crate) const SHAPES: usize = 129;
 
+// Kept: a table for each column, and tests by number, since the definitions of specs/Rows.antt have them so.
 const LABELS: [u8; 165] = *b"\
     \x00\x01\x18\x19\x1a\x1b\x1c\x1d\x13\x14\x15\x1e\x16\x1f\x20\x00\x01\x02\x03\x05\x06\x07\x08\x09\x0a\x00\x01\x02\
     \x03\x06\x0b\x08\x09\x0a\x00\x01\x02\x03\x0c\x0d\x0e\x0f\x0a\x00\x01\x13\x14\x15\x16\x17\x00\x01\x02\x03\x04\x00\
@@ -92,48 +94,44 @@ const COUNTS: [u8; 129] = *b"\
     \x00\x00\x00\x00\x00\x00\x00\x00\x00\x00\x00\x00\x00\x00\x00\x00\x0d\
     ";
 
-fn wide(n: u8) -> u32
-    ensures { result ≡ n }
-{
-    n as u32
-}
-
 // The list that row i takes what it says from, over a word: list 0 says nothing.
 fn list_in(word: u64, i: usize) -> u32
     requires { i < 165 }
     ensures { values_at result ≡ values_in word i }
 {
-    if holds(word, wide(TESTS[i])) {
-        return wide(LISTS[i]);
+    if holds(word, u32::from(TESTS[i])) {
+        return u32::from(LISTS[i]);
     }
-    if holds(word, wide(OTHER_TESTS[i])) {
-        return wide(OTHER_LISTS[i]);
+    if holds(word, u32::from(OTHER_TESTS[i])) {
+        return u32::from(OTHER_LISTS[i]);
     }
     0
 }
 
 // The line of row i over a word.
-pub(crate) fn row_line(out: &mut [u8], at: usize, word: u64, i: usize) -> usize
+pub(crate) fn row_line(text: &mut Text<'_>, word: u64, i: usize)
     requires { i < 165 }
-    ensures { Appends (row_text word (row_in word i)) out.old at out.new result }
+    ensures { Extends (row_text word (row_in word i)) text.old text.new }
 {
-    let high = wide(HIGHS[i]);
-    let low = wide(LOWS[i]);
-    let label = wide(LABELS[i]);
+    let high = u32::from(HIGHS[i]);
+    let low = u32::from(LOWS[i]);
+    let label = u64::from(LABELS[i]);
     let list = list_in(word, i);
-    field_line(out, at, word, label as u64, high, low, list)
+    field_line(text, word, label, high, low, list);
 }
 
+#[tactic(auto, unfolding(crate::specs::Rows::shape_firsts))]
 pub(crate) fn first(shape: usize) -> usize
     requires { shape < 129 }
     ensures { result ≡ get_or shape_firsts shape 0 }
 {
-    wide(FIRSTS[shape]) as usize
+    usize::from(FIRSTS[shape])
 }
 
+#[tactic(auto, unfolding(crate::specs::Rows::shape_counts))]
 pub(crate) fn count(shape: usize) -> usize
     requires { shape < 129 }
     ensures { result ≡ get_or shape_counts shape 0 }
 {
-    wide(COUNTS[shape]) as usize
+    usize::from(COUNTS[shape])
 }

@@ -2,6 +2,7 @@
 ghost use Rattle.std.specs.Prelude.{◌<◌, ◌≡◌, false, get_or};
 ghost use Rattle.field_text.specs.Rows.{tests_of, holds_in};
 
+#[tactic(auto, unfolding(crate::specs::Rows::tests_of))]
 fn chosen(
     test: u32,
     code: u32,
@@ -30,6 +31,7 @@ fn chosen(
     }
 }
 
+#[tactic(auto, unfolding(crate::specs::Rows::tests))]
 pub(crate) fn holds(word: u64, test: u32) -> bool
     requires { test < 12 }
     ensures { result ≡ holds_in word test }

@@ -6,12 +6,13 @@ use mathlib.Core.List.{List, [], ◌∷◌}
 use mathlib.Core.Logic.{◌↔◌}
 use Prim.Native.Nat.{ℕ}
 use lib.Dec.{ltb}
+use Rattle.std.specs.Prelude.{Result, Ok, Err}
 use Rattle.bits.specs.Decide.{Test, needs, decide, relabel}
 use Rattle.edition.specs.Mask.{mask_below, count_below}
 use Rattle.edition.specs.Judge.{refusal_number}
 use Rattle.edition.specs.declared.Refusal.{Refusal}
 use Rattle.edition.specs.declared.Refusal.TheVariants.{OtherEditions}
-use Rattle.form.specs.Answer.{Answer, given, refused, number_in, mask_in, count_in}
+use Rattle.form.specs.Answer.{number_in, mask_in, count_in}
 use Rattle.promise.specs.Promise.{six_only, Promise}
 use Rattle.promise.proofs.Promises.{kept}
 use Rattle.form.specs.Call.{call_tests, call_of}
@@ -25,7 +26,7 @@ use Rattle.form.proofs.Numbers.{call_through, call_number, call_carries, back_nu
 -- ---- promises of a call's own answers
 
 -- an answer says its number, and with 6 alone its mask and count
-abbrev Says : {A : Type 0} → ℕ → ℕ → ℕ → Answer A → Type 0
+abbrev Says : {A : Type 0} → ℕ → ℕ → ℕ → Result A Refusal → Type 0
 Says k m c a = Promise (numbers_of (λ b. b)) a k m c a
 
 call_says : {A : Type 0} (n : ℕ) (test : ℕ → Bool) (own : List (Test Refusal)) (e : ℕ) (a : A) → Own n test own
@@ -34,19 +35,19 @@ call_says n test own e a ok =
     let carries = call_carries n test own e a ok in
     record { answer = refl; number = call_number n test own e a; mask = carries.0; count = carries.1 }
 
-again_says : {R : Type 0} (w : ℕ) (a : Answer R) {k m c : ℕ} → Says k m c a → Says k m c (again w a)
-again_says w (given r) p = record { answer = refl; number = p.number; mask = p.mask; count = p.count }
-again_says w (refused refusal) p = record { answer = refl; number = p.number; mask = p.mask; count = p.count }
+again_says : {R : Type 0} (w : ℕ) (a : Result R Refusal) {k m c : ℕ} → Says k m c a → Says k m c (again w a)
+again_says w (Ok r) p = record { answer = refl; number = p.number; mask = p.mask; count = p.count }
+again_says w (Err refusal) p = record { answer = refl; number = p.number; mask = p.mask; count = p.count }
 
 -- answers of code say what they mean
-means_says : {A X : Type 0} (means : X → Answer A) (x : X) (a : Answer A) (k m c : ℕ) → means x ≡ a → Says k m c a
+means_says : {A X : Type 0} (means : X → Result A Refusal) (x : X) (a : Result A Refusal) (k m c : ℕ) → means x ≡ a → Says k m c a
     → Promise (numbers_of means) x k m c x
 means_says {A} {X} means x a k m c same p =
     record {
       answer = refl;
       number = ap number_in same ∙ p.number;
-      mask = ap mask_in same ∙ p.mask ∙ ap (λ (b : Answer A). six_only (number_in b) m) (sym same);
-      count = ap count_in same ∙ p.count ∙ ap (λ (b : Answer A). six_only (number_in b) c) (sym same);
+      mask = ap mask_in same ∙ p.mask ∙ ap (λ (b : Result A Refusal). six_only (number_in b) m) (sym same);
+      count = ap count_in same ∙ p.count ∙ ap (λ (b : Result A Refusal). six_only (number_in b) c) (sym same);
     }
 
 -- ---- the promises of the four calls
@@ -84,7 +85,7 @@ module _ {R : Type 0} (f : Form R) (s : Sound f) where
   write_says : (e : ℕ) (r : R) → Says (decide (write_list f e r) 0) (record_mask f r) (record_count f r) (write_as f e r)
   write_says e r = call_says f.editions (λ x. f.has x r) (f.writing r) e (f.word r) (own_writing f s r)
 
-  module _ {X : Type 0} {shown : Answer R → X} {means : X → Answer R} (reads : Shows shown means) (e w : ℕ) where
+  module _ {X : Type 0} {shown : Result R Refusal → X} {means : X → Result R Refusal} (reads : Shows shown means) (e w : ℕ) where
     -- READING
     pub reading : {a : X} → a ≡ shown (read_as f e w)
         → Promise (numbers_of means) (shown (read_as f e w)) (decide (read_list f e w) 0) (word_mask f w) (word_count f w) a
@@ -92,13 +93,13 @@ module _ {R : Type 0} (f : Form R) (s : Sound f) where
 
     -- refusal 6 of reading, exactly
     pub read_six_exactly : (mask count : ℕ)
-        → (shown (read_as f e w) ≡ shown (refused (OtherEditions mask count)))
+        → (shown (read_as f e w) ≡ shown (Err (OtherEditions mask count)))
         ↔ (OthersHave f.editions (λ x. has_word f x w) e × (mask ≡ word_mask f w) × (count ≡ word_count f w))
     read_six_exactly mask count =
         let law = six_exactly f.editions (λ x. has_word f x w) (f.reading w) e (f.at w) (own_reading f s w) mask count in
         (λ t. law.0 (shown_alike reads _ _ t), λ h. ap shown (law.1 h))
 
-  module _ {Y : Type 0} {put : Answer ℕ → Y} {told : Y → Answer ℕ} (writes : Shows put told) where
+  module _ {Y : Type 0} {put : Result ℕ Refusal → Y} {told : Y → Result ℕ Refusal} (writes : Shows put told) where
     -- WRITING
     pub writing : (e : ℕ) (r : R) {a : Y} → a ≡ put (write_as f e r)
         → Promise (numbers_of told) (put (write_as f e r)) (decide (write_list f e r) 0) (record_mask f r) (record_count f r) a
@@ -107,7 +108,7 @@ module _ {R : Type 0} (f : Form R) (s : Sound f) where
 
     -- refusal 6 of writing, exactly
     pub write_six_exactly : (e : ℕ) (r : R) (mask count : ℕ)
-        → (put (write_as f e r) ≡ put (refused (OtherEditions mask count)))
+        → (put (write_as f e r) ≡ put (Err (OtherEditions mask count)))
         ↔ (OthersHave f.editions (λ x. f.has x r) e × (mask ≡ record_mask f r) × (count ≡ record_count f r))
     write_six_exactly e r mask count =
         let law = six_exactly f.editions (λ x. f.has x r) (f.writing r) e (f.word r) (own_writing f s r) mask count in
@@ -121,38 +122,38 @@ module _ {R : Type 0} (f : Form R) (s : Sound f) where
         kept same (means_says told (put answer) answer _ _ _ (writes.same answer) (again_says w (read_as f e w) (read_says e w)))
 
   module _ (writer reader : ℕ) (r : R) where
-    carry_says : Says (carry_number f writer reader r) (record_mask f r) (record_count f r) (carried_as refused (λ a. a) f writer reader r)
+    carry_says : Says (carry_number f writer reader r) (record_mask f r) (record_count f r) (carried_as Err (λ a. a) f writer reader r)
     carry_says =
         let named = by (write_as f writer r) (write_says writer r) in
         record {
           answer = refl;
           number =
-              call_through (λ a. number_in (carried_from refused (λ b. b) f reader r a)) f.editions (λ x. f.has x r) (f.writing r)
+              call_through (λ a. number_in (carried_from Err (λ b. b) f reader r a)) f.editions (λ x. f.has x r) (f.writing r)
               writer (f.word r)
               ∙ ap (decide (write_list f writer r)) (back_number f reader r);
           mask = named.0;
           count = named.1;
         }
       where
-        by : (a : Answer ℕ) {k : ℕ} → Says k (record_mask f r) (record_count f r) a
-            → (mask_in (carried_from refused (λ b. b) f reader r a)
-            ≡ six_only (number_in (carried_from refused (λ b. b) f reader r a)) (record_mask f r))
-            × (count_in (carried_from refused (λ b. b) f reader r a)
-            ≡ six_only (number_in (carried_from refused (λ b. b) f reader r a)) (record_count f r))
-        by (given w) p = back_names f reader r
-        by (refused refusal) p = (p.mask, p.count)
+        by : (a : Result ℕ Refusal) {k : ℕ} → Says k (record_mask f r) (record_count f r) a
+            → (mask_in (carried_from Err (λ b. b) f reader r a)
+            ≡ six_only (number_in (carried_from Err (λ b. b) f reader r a)) (record_mask f r))
+            × (count_in (carried_from Err (λ b. b) f reader r a)
+            ≡ six_only (number_in (carried_from Err (λ b. b) f reader r a)) (record_count f r))
+        by (Ok w) p = back_names f reader r
+        by (Err refusal) p = (p.mask, p.count)
 
     -- CARRYING: answers of code that mean the writer's refusal, or what the reader answers
-    pub carrying : {X : Type 0} (unwritten : Refusal → X) (read : Answer R → X) (means : X → Answer R)
-        → ((refusal : Refusal) → means (unwritten refusal) ≡ refused refusal) → ((a : Answer R) → means (read a) ≡ a)
+    pub carrying : {X : Type 0} (unwritten : Refusal → X) (read : Result R Refusal → X) (means : X → Result R Refusal)
+        → ((refusal : Refusal) → means (unwritten refusal) ≡ Err refusal) → ((a : Result R Refusal) → means (read a) ≡ a)
         → {c : X} → c ≡ carried_as unwritten read f writer reader r
         → Promise (numbers_of means) (carried_as unwritten read f writer reader r) (carry_number f writer reader r) (record_mask f r)
         (record_count f r) c
     carrying unwritten read means of-refusal of-answer same =
         kept same
-        (means_says means (carried_as unwritten read f writer reader r) (carried_as refused (λ a. a) f writer reader r) _ _ _
+        (means_says means (carried_as unwritten read f writer reader r) (carried_as Err (λ a. a) f writer reader r) _ _ _
         (by (write_as f writer r)) carry_says)
       where
-        by : (a : Answer ℕ) → means (carried_from unwritten read f reader r a) ≡ carried_from refused (λ b. b) f reader r a
-        by (given w) = of-answer (read_back f reader r)
-        by (refused refusal) = of-refusal refusal
+        by : (a : Result ℕ Refusal) → means (carried_from unwritten read f reader r a) ≡ carried_from Err (λ b. b) f reader r a
+        by (Ok w) = of-answer (read_back f reader r)
+        by (Err refusal) = of-refusal refusal

@@ -6,16 +6,14 @@ use mathlib.Core.List.{List}
 use Prim.Native.Nat.{ℕ}
 use borrow.Author.Tests.{ltb-true}
 use lib.Dec.{eqb, ltb}
+use Rattle.std.specs.Prelude.{Result, Ok, Err}
 use Rattle.bits.specs.Decide.{Test, AllPass}
 use Rattle.edition.specs.Mask.{mask_below}
 use Rattle.edition.specs.Judge.{judge_of}
 use Rattle.edition.specs.declared.Refusal.{Refusal}
 use Rattle.edition.specs.declared.Refusal.TheVariants.{NoEdition}
-use Rattle.edition.specs.declared.Verdict.{Verdict}
-use Rattle.edition.specs.declared.Verdict.TheVariants.{Taken, Refused}
 use Rattle.edition.proofs.Masks.{mask_when, mask_same}
 use Rattle.edition.proofs.Judgement.{judge_test}
-use Rattle.form.specs.Answer.{Answer, given, refused}
 use Rattle.form.specs.Call.{some_has, others, call_of}
 use Rattle.form.proofs.Calls.{call_judged}
 
@@ -34,9 +32,9 @@ made_mask n has joined word w made =
         ∙ sym (ap (λ (b : Bool). eqb word w && b) h ∙ and-false (eqb word w))
 
 -- what a verdict makes of what is to be given
-abbrev pub verdict_of : {A : Type 0} → A → Verdict → Answer A
-verdict_of a Taken = given a
-verdict_of a (Refused refusal) = refused refusal
+abbrev pub verdict_of : {A : Type 0} → A → Result Unit Refusal → Result A Refusal
+verdict_of a (Ok done) = Ok a
+verdict_of a (Err refusal) = Err refusal
 
 pub call_verdict : {A : Type 0} (n : ℕ) (test : ℕ → Bool) (own : List (Test Refusal)) (e : ℕ) (a : A) → ltb e n ≡ true → AllPass own
     → call_of n test own e a ≡ verdict_of a (judge_of e (mask_below n test))
@@ -44,8 +42,8 @@ call_verdict n test own e a is pass =
     call_judged n test own e a is pass ∙ by (some_has n test) (test e) ∙ sym (ap (verdict_of a) (judge_test n test e (ltb-true e n is)))
   where
     by : (some has : Bool)
-        → cond some (cond has (given a) (refused (others n test))) (refused NoEdition)
-        ≡ verdict_of a (cond some (cond has Taken (Refused (others n test))) (Refused NoEdition))
+        → cond some (cond has (Ok a) (Err (others n test))) (Err NoEdition)
+        ≡ verdict_of a (cond some (cond has (Ok (tt {0})) (Err (others n test))) (Err NoEdition))
     by true true = refl
     by true false = refl
     by false has = refl

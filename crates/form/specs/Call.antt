@@ -1,12 +1,11 @@
 -- A call that goes by the edition, over n editions (01, 'Numbers a call may answer'): 1; then the tests that are the call's own; then 5
 -- where no edition has it; then 6, with the editions that have it and their number, where this edition doesn't.
-use Rattle.std.specs.Prelude.{ℕ, Bool, not, List, [], ◌∷◌, ◌++◌, eqb, ltb}
+use Rattle.std.specs.Prelude.{ℕ, Bool, not, List, [], ◌∷◌, ◌++◌, eqb, ltb, Result, Ok, Err}
 use Rattle.std.specs.Int.Count.{ones}
 use Rattle.bits.specs.Decide.{Test, needs, decide, relabel}
 use Rattle.edition.specs.Mask.{mask_below}
 use Rattle.edition.specs.declared.Refusal.{Refusal}
 use Rattle.edition.specs.declared.Refusal.TheVariants.{UnknownEdition, NoEdition, OtherEditions}
-use Rattle.form.specs.Answer.{Answer, given, refused}
 
 -- some edition has it
 abbrev pub some_has : ℕ → (ℕ → Bool) → Bool
@@ -22,5 +21,5 @@ judgement n test e = needs (some_has n test) NoEdition ∷ needs (test e) (other
 abbrev pub call_tests : ℕ → (ℕ → Bool) → List (Test Refusal) → ℕ → List (Test Refusal)
 call_tests n test own e = needs (ltb e n) UnknownEdition ∷ (own ++ judgement n test e)
 
-unfoldable pub call_of : {A : Type 0} → ℕ → (ℕ → Bool) → List (Test Refusal) → ℕ → A → Answer A
-call_of n test own e a = decide (relabel refused (call_tests n test own e)) (given a)
+unfoldable pub call_of : {A : Type 0} → ℕ → (ℕ → Bool) → List (Test Refusal) → ℕ → A → Result A Refusal
+call_of n test own e a = decide (relabel Err (call_tests n test own e)) (Ok a)

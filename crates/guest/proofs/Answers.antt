@@ -1,4 +1,5 @@
 -- Laws of the answer, and of the state beside it, for every state and every injection.
+use Rattle.std.specs.Prelude.{Result, Ok, Err}
 use mathlib.Core.Path.{◌≡◌, refl, sym, ap, ◌∙◌}
 use mathlib.Core.Bool.{true, cond}
 use mathlib.Core.Logic.{◌↔◌}
@@ -12,9 +13,9 @@ use Rattle.promise.proofs.Promises.{by_tests, first_exactly, promised as answers
 use Rattle.status.specs.Sound.{sound}
 use Rattle.exception.specs.declared.state.Guest.{Guest}
 use Rattle.exception.specs.Vector.{aligned}
-use Rattle.guest.specs.declared.answer.Answer.{Answer}
-use Rattle.guest.specs.declared.answer.Answer.TheVariants.{Accepted, UnsoundStatus, UnalignedVbar, UnwritableFault, WideAddress}
-use Rattle.guest.specs.declared.answer.Answer.TheVariants.{WideDomain}
+use Rattle.guest.specs.declared.answer.InjectionRefusal.{InjectionRefusal}
+use Rattle.guest.specs.declared.answer.InjectionRefusal.TheVariants.{UnsoundStatus, UnalignedVbar, UnwritableFault, WideAddress}
+use Rattle.guest.specs.declared.answer.InjectionRefusal.TheVariants.{WideDomain}
 use Rattle.guest.specs.declared.injection.Injection.{Injection}
 use Rattle.guest.specs.declared.injector.Injected.{Injected}
 use Rattle.guest.specs.Answer.{answer_number, injection_list}
@@ -26,7 +27,7 @@ use Rattle.guest.specs.Promise.{Injecting}
 
 pub answered : (s : Guest) (i : Injection) → Answers answer_number (injection_answer s i) (injection_numbers s i) (injection_answer s i)
 unfolding injection_answer
-answered s i = by_tests answer_number (injection_tests s i) Accepted refl refl refl
+answered s i = by_tests answer_number (injection_tests s i) (Ok tt) refl refl refl
 
 -- what the calls promise of the answer and the state, by their equation alone
 pub promised : (s : Guest) (i : Injection) {r : Injected} → r ≡ injected s i → Injecting s i r
@@ -51,52 +52,52 @@ pub record Passes (s : Guest) (i : Injection) : Type 0 where
   pub domain : domain_fits i ≡ true
   pub address : address_fits i ≡ true
 
-passes : (s : Guest) (i : Injection) → injection_answer s i ≡ Accepted → Passes s i
+passes : (s : Guest) (i : Injection) → injection_answer s i ≡ Ok tt → Passes s i
 passes s i e =
     let p = (decided s i 0).0 (ap answer_number e) in
     record { status = p.0; vbar = p.1.0; fault = p.1.1.0; domain = p.1.1.1.0; address = p.1.1.1.1.0 }
 
-taken : (s : Guest) (i : Injection) → Passes s i → injection_answer s i ≡ Accepted
+taken : (s : Guest) (i : Injection) → Passes s i → injection_answer s i ≡ Ok tt
 unfolding injection_answer
-taken s i p = all_pass (injection_tests s i) Accepted (p.status, (p.vbar, (p.fault, (p.domain, (p.address, tt)))))
+taken s i p = all_pass (injection_tests s i) (Ok tt) (p.status, (p.vbar, (p.fault, (p.domain, (p.address, tt)))))
 
-pub accepted_exactly : (s : Guest) (i : Injection) → (injection_answer s i ≡ Accepted) ↔ Passes s i
+pub accepted_exactly : (s : Guest) (i : Injection) → (injection_answer s i ≡ Ok tt) ↔ Passes s i
 accepted_exactly s i = (passes s i, taken s i)
 
 -- ---- a refusal gives back the very state, and an injection that is taken the defined one
 
-untouched : (a : Answer) (s after : Guest) → (a ≡ Accepted → ⊥) → resulting a s after ≡ s
-untouched Accepted s after n = absurd (n refl)
-untouched UnsoundStatus s after n = refl
-untouched UnalignedVbar s after n = refl
-untouched UnwritableFault s after n = refl
-untouched WideAddress s after n = refl
-untouched WideDomain s after n = refl
+untouched : (a : Result Unit InjectionRefusal) (s after : Guest) → (a ≡ Ok tt → ⊥) → resulting a s after ≡ s
+untouched (Ok tt) s after n = absurd (n refl)
+untouched (Err UnsoundStatus) s after n = refl
+untouched (Err UnalignedVbar) s after n = refl
+untouched (Err UnwritableFault) s after n = refl
+untouched (Err WideAddress) s after n = refl
+untouched (Err WideDomain) s after n = refl
 
-pub refused_untouched : (s : Guest) (i : Injection) → (injection_answer s i ≡ Accepted → ⊥) → (injected s i).state ≡ s
+pub refused_untouched : (s : Guest) (i : Injection) → (injection_answer s i ≡ Ok tt → ⊥) → (injected s i).state ≡ s
 unfolding injected
 refused_untouched s i = untouched (injection_answer s i) s (guest_after s i)
 
-pub accepted_state : (s : Guest) (i : Injection) → injection_answer s i ≡ Accepted → (injected s i).state ≡ guest_after s i
+pub accepted_state : (s : Guest) (i : Injection) → injection_answer s i ≡ Ok tt → (injected s i).state ≡ guest_after s i
 unfolding injected
-accepted_state s i e = ap (λ (a : Answer). resulting a s (guest_after s i)) e
+accepted_state s i e = ap (λ (a : Result Unit InjectionRefusal). resulting a s (guest_after s i)) e
 
 -- ---- no two answers have one number
 
-answer_at : ℕ → Answer
+answer_at : ℕ → Result Unit InjectionRefusal
 answer_at n =
-    cond (eqb n 0) Accepted
-    (cond (eqb n 9) UnsoundStatus (cond (eqb n 10) UnalignedVbar
-    (cond (eqb n 11) UnwritableFault (cond (eqb n 12) WideAddress WideDomain))))
+    cond (eqb n 0) (Ok tt)
+    (cond (eqb n 9) (Err UnsoundStatus) (cond (eqb n 10) (Err UnalignedVbar)
+    (cond (eqb n 11) (Err UnwritableFault) (cond (eqb n 12) (Err WideAddress) (Err WideDomain)))))
 
-back : (a : Answer) → answer_at (answer_number a) ≡ a
+back : (a : Result Unit InjectionRefusal) → answer_at (answer_number a) ≡ a
 unfolding answer_at
-back Accepted = refl
-back UnsoundStatus = refl
-back UnalignedVbar = refl
-back UnwritableFault = refl
-back WideAddress = refl
-back WideDomain = refl
+back (Ok tt) = refl
+back (Err UnsoundStatus) = refl
+back (Err UnalignedVbar) = refl
+back (Err UnwritableFault) = refl
+back (Err WideAddress) = refl
+back (Err WideDomain) = refl
 
-pub numbers_differ : (a b : Answer) → answer_number a ≡ answer_number b → a ≡ b
+pub numbers_differ : (a b : Result Unit InjectionRefusal) → answer_number a ≡ answer_number b → a ≡ b
 numbers_differ a b e = sym (back a) ∙ ap answer_at e ∙ back b

@@ -1,4 +1,5 @@
 -- Where the domain of a data abort counts (02, C-21), for every state and every access.
+use Rattle.std.specs.Prelude.{Option, Result, Ok, Err}
 use mathlib.Core.Path.{◌≡◌, sym, ap₂, ◌∙◌}
 use mathlib.Core.Bool.{Bool, false, not, ◌&&◌}
 use mathlib.Core.List.{[], ◌∷◌}
@@ -7,15 +8,14 @@ use lib.Dec.{ltb}
 use borrow.Author.Tests.{le-leb}
 use Rattle.bits.specs.Decide.{needs, decide}
 use Rattle.status.specs.Sound.{sound}
-use Rattle.fault.specs.declared.Encoding.{Encoding}
 use Rattle.fault.specs.Fault.{fault_row, is_long, is_code, code_in}
 use Rattle.fault.proofs.Domains.{no_domain}
 use Rattle.exception.specs.declared.state.Guest.{Guest}
 use Rattle.exception.specs.Vector.{aligned}
 use Rattle.exception.specs.Entry.{entered}
-use Rattle.guest.specs.declared.answer.Answer.{Answer}
-use Rattle.guest.specs.declared.answer.Answer.TheVariants.{Accepted, UnsoundStatus, UnalignedVbar, UnwritableFault, WideAddress}
-use Rattle.guest.specs.declared.answer.Answer.TheVariants.{WideDomain}
+use Rattle.guest.specs.declared.answer.InjectionRefusal.{InjectionRefusal}
+use Rattle.guest.specs.declared.answer.InjectionRefusal.TheVariants.{UnsoundStatus, UnalignedVbar, UnwritableFault, WideAddress}
+use Rattle.guest.specs.declared.answer.InjectionRefusal.TheVariants.{WideDomain}
 use Rattle.guest.specs.declared.injection.Access.{Access}
 use Rattle.guest.specs.declared.injection.Injection.{Injection}
 use Rattle.guest.specs.declared.injection.Injection.TheVariants.{DataAbort}
@@ -29,18 +29,18 @@ module _ (s : Guest) (a : Access) where
   with_domain d = DataAbort record { fault = a.fault; address = a.address; write = a.write; domain = d }
 
   -- an injection by what looks at the domain: DFSR, and whether 20 passes
-  abbrev answer_by : Encoding → Bool → Answer
+  abbrev answer_by : Option ℕ → Bool → Result Unit InjectionRefusal
   answer_by dfsr fits =
       decide
-      (needs (sound s.marks s.status) UnsoundStatus
-      ∷ needs (aligned s.vbar) UnalignedVbar
-      ∷ needs (is_code dfsr) UnwritableFault
-      ∷ needs fits WideDomain
-      ∷ needs (ltb a.address (2 ^ 32)) WideAddress
+      (needs (sound s.marks s.status) (Err UnsoundStatus)
+      ∷ needs (aligned s.vbar) (Err UnalignedVbar)
+      ∷ needs (is_code dfsr) (Err UnwritableFault)
+      ∷ needs fits (Err WideDomain)
+      ∷ needs (ltb a.address (2 ^ 32)) (Err WideAddress)
       ∷ [])
-      Accepted
+      (Ok tt)
 
-  abbrev injected_by : Encoding → Bool → Injected
+  abbrev injected_by : Option ℕ → Bool → Injected
   injected_by dfsr fits =
       record {
         answer = answer_by dfsr fits;

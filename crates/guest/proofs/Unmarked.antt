@@ -1,4 +1,5 @@
 -- Marks (02, C-15): an injection changes none, and a state with none behaves as before the request.
+use Rattle.std.specs.Prelude.{Result, Ok, Err}
 use mathlib.Core.Path.{◌≡◌, refl, ap, ap₂, ◌∙◌}
 use mathlib.Core.Bool.{Bool, true, false, cond}
 use mathlib.Core.List.{[], ◌∷◌}
@@ -13,9 +14,9 @@ use Rattle.status.proofs.Unmarked.{unmarked_sound, unmarked_entry}
 use Rattle.exception.specs.declared.state.Guest.{Guest}
 use Rattle.exception.specs.Vector.{aligned}
 use Rattle.exception.specs.Entry.{entered_with, entered}
-use Rattle.guest.specs.declared.answer.Answer.{Answer}
-use Rattle.guest.specs.declared.answer.Answer.TheVariants.{Accepted, UnsoundStatus, UnalignedVbar, UnwritableFault, WideAddress}
-use Rattle.guest.specs.declared.answer.Answer.TheVariants.{WideDomain}
+use Rattle.guest.specs.declared.answer.InjectionRefusal.{InjectionRefusal}
+use Rattle.guest.specs.declared.answer.InjectionRefusal.TheVariants.{UnsoundStatus, UnalignedVbar, UnwritableFault, WideAddress}
+use Rattle.guest.specs.declared.answer.InjectionRefusal.TheVariants.{WideDomain}
 use Rattle.guest.specs.declared.injection.Injection.{Injection}
 use Rattle.guest.specs.declared.injection.Injection.TheVariants.{UndefinedAt, UndefinedAfter, SupervisorCall, PrefetchAbort}
 use Rattle.guest.specs.declared.injection.Injection.TheVariants.{DataAbort}
@@ -45,16 +46,16 @@ f_kept (DataAbort a) = refl
 
 module _ (s : Guest) (i : Injection) where
   -- an injection by what looks at the marks: whether 9 passes, and the new status word
-  abbrev answer_by : Bool → Answer
+  abbrev answer_by : Bool → Result Unit InjectionRefusal
   answer_by passes =
       decide
-      (needs passes UnsoundStatus
-      ∷ needs (aligned s.vbar) UnalignedVbar
-      ∷ needs (writable i s.ttbcr) UnwritableFault
-      ∷ needs (domain_fits i) WideDomain
-      ∷ needs (address_fits i) WideAddress
+      (needs passes (Err UnsoundStatus)
+      ∷ needs (aligned s.vbar) (Err UnalignedVbar)
+      ∷ needs (writable i s.ttbcr) (Err UnwritableFault)
+      ∷ needs (domain_fits i) (Err WideDomain)
+      ∷ needs (address_fits i) (Err WideAddress)
       ∷ [])
-      Accepted
+      (Ok tt)
 
   abbrev injected_by : Bool → ℕ → Injected
   injected_by passes status =

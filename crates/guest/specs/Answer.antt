@@ -1,16 +1,16 @@
 -- The number of each answer (01, 'Numbers a call may answer'; 02, C-21: 20).
-use Rattle.std.specs.Prelude.{ℕ, List, [], ◌∷◌}
-use Rattle.guest.specs.declared.answer.Answer.{Answer}
-use Rattle.guest.specs.declared.answer.Answer.TheVariants.{Accepted, UnsoundStatus, UnalignedVbar, UnwritableFault, WideAddress}
-use Rattle.guest.specs.declared.answer.Answer.TheVariants.{WideDomain}
+use Rattle.std.specs.Prelude.{ℕ, List, [], ◌∷◌, Result, Ok, Err}
+use Rattle.guest.specs.declared.answer.InjectionRefusal.{InjectionRefusal}
+use Rattle.guest.specs.declared.answer.InjectionRefusal.TheVariants.{UnsoundStatus, UnalignedVbar, UnwritableFault, WideAddress}
+use Rattle.guest.specs.declared.answer.InjectionRefusal.TheVariants.{WideDomain}
 
-abbrev pub answer_number : Answer → ℕ
-answer_number Accepted = 0
-answer_number UnsoundStatus = 9
-answer_number UnalignedVbar = 10
-answer_number UnwritableFault = 11
-answer_number WideAddress = 12
-answer_number WideDomain = 20
+abbrev pub answer_number : Result Unit InjectionRefusal → ℕ
+answer_number (Ok tt) = 0
+answer_number (Err UnsoundStatus) = 9
+answer_number (Err UnalignedVbar) = 10
+answer_number (Err UnwritableFault) = 11
+answer_number (Err WideAddress) = 12
+answer_number (Err WideDomain) = 20
 
 -- what an injection may answer
 abbrev pub injection_list : List ℕ

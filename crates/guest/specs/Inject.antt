@@ -1,11 +1,10 @@
 -- An injection (01, 'Guest state and the five injections'): its answer, and the whole state after it.
-use Rattle.std.specs.Prelude.{ℕ, cond, eqb}
+use Rattle.std.specs.Prelude.{ℕ, cond, eqb, Result, Ok}
 use Rattle.bits.specs.Decide.{decide}
 use Rattle.fault.specs.Fault.{ifsr_word, dfsr_word, code_in}
 use Rattle.exception.specs.declared.state.FaultRegisters.{FaultRegisters}
 use Rattle.exception.specs.declared.state.Guest.{Guest}
-use Rattle.guest.specs.declared.answer.Answer.{Answer}
-use Rattle.guest.specs.declared.answer.Answer.TheVariants.{Accepted}
+use Rattle.guest.specs.declared.answer.InjectionRefusal.{InjectionRefusal}
 use Rattle.guest.specs.declared.injection.Injection.{Injection}
 use Rattle.guest.specs.declared.injection.Injection.TheVariants.{UndefinedAt, UndefinedAfter, SupervisorCall, PrefetchAbort}
 use Rattle.guest.specs.declared.injection.Injection.TheVariants.{DataAbort}
@@ -35,11 +34,11 @@ abbrev pub guest_after : Guest → Injection → Guest
 guest_after s i = entered s (injection_row i) (faults_after i s.faults s.ttbcr)
 
 -- the first test that fails gives the answer
-unfoldable pub injection_answer : Guest → Injection → Answer
-injection_answer s i = decide (injection_tests s i) Accepted
+unfoldable pub injection_answer : Guest → Injection → Result Unit InjectionRefusal
+injection_answer s i = decide (injection_tests s i) (Ok tt)
 
 -- an answer 0 comes with the new state, and a refusal gives back the state as it came
-abbrev pub resulting : Answer → Guest → Guest → Guest
+abbrev pub resulting : Result Unit InjectionRefusal → Guest → Guest → Guest
 resulting a s after = cond (eqb (answer_number a) 0) after s
 
 unfoldable pub injected : Guest → Injection → Injected

@@ -1,13 +1,13 @@
 -- The tests of an injection (01, 'Numbers a call may answer': "Injecting tests 9, 10, 11, 12"; 02, C-21: 20 "after 11 and before 12, in
 -- either format").
-use Rattle.std.specs.Prelude.{ℕ, ◌^◌, Bool, true, List, [], ◌∷◌, leb, ltb}
+use Rattle.std.specs.Prelude.{ℕ, ◌^◌, Bool, true, List, [], ◌∷◌, leb, ltb, Result, Err}
 use Rattle.bits.specs.Decide.{Test, needs, relabel}
 use Rattle.status.specs.Sound.{sound}
 use Rattle.fault.specs.Fault.{ifsr_word, dfsr_word, is_code}
 use Rattle.exception.specs.declared.state.Guest.{Guest}
 use Rattle.exception.specs.Vector.{aligned}
-use Rattle.guest.specs.declared.answer.Answer.{Answer}
-use Rattle.guest.specs.declared.answer.Answer.TheVariants.{UnsoundStatus, UnalignedVbar, UnwritableFault, WideAddress, WideDomain}
+use Rattle.guest.specs.declared.answer.InjectionRefusal.{InjectionRefusal}
+use Rattle.guest.specs.declared.answer.InjectionRefusal.TheVariants.{UnsoundStatus, UnalignedVbar, UnwritableFault, WideAddress, WideDomain}
 use Rattle.guest.specs.declared.injection.Injection.{Injection}
 use Rattle.guest.specs.declared.injection.Injection.TheVariants.{UndefinedAt, UndefinedAfter, SupervisorCall, PrefetchAbort}
 use Rattle.guest.specs.declared.injection.Injection.TheVariants.{DataAbort}
@@ -38,13 +38,13 @@ address_fits (PrefetchAbort f) = ltb f.address (2 ^ 32)
 address_fits (DataAbort a) = ltb a.address (2 ^ 32)
 
 -- the tests in their order, each with its answer
-abbrev pub injection_tests : Guest → Injection → List (Test Answer)
+abbrev pub injection_tests : Guest → Injection → List (Test (Result Unit InjectionRefusal))
 injection_tests s i =
-    needs (sound s.marks s.status) UnsoundStatus
-    ∷ needs (aligned s.vbar) UnalignedVbar
-    ∷ needs (writable i s.ttbcr) UnwritableFault
-    ∷ needs (domain_fits i) WideDomain
-    ∷ needs (address_fits i) WideAddress
+    needs (sound s.marks s.status) (Err UnsoundStatus)
+    ∷ needs (aligned s.vbar) (Err UnalignedVbar)
+    ∷ needs (writable i s.ttbcr) (Err UnwritableFault)
+    ∷ needs (domain_fits i) (Err WideDomain)
+    ∷ needs (address_fits i) (Err WideAddress)
     ∷ []
 
 -- and with its number; 0 comes where none fails

@@ -2,9 +2,9 @@
 ghost use Rattle.std.specs.Prelude.{◌≡◌};
 ghost use Rattle.guest.specs.Answer.{answer_number};
 
-#[derive(Clone, Copy)]
-pub enum Answer {
-    Accepted,
+// Why an injection is refused.
+#[derive(Clone, Copy, PartialEq, Eq)]
+pub enum InjectionRefusal {
     // The status word's mode, or a bit of its 24:21, is wrong.
     UnsoundStatus,
     // VBAR bits 4:0 are not zero.
@@ -17,15 +17,15 @@ pub enum Answer {
     WideDomain,
 }
 
-pub fn number(answer: Answer) -> u32
+pub fn number(answer: Result<(), InjectionRefusal>) -> u32
     ensures { result ≡ answer_number answer }
 {
     match answer {
-        Answer::Accepted => 0,
-        Answer::UnsoundStatus => 9,
-        Answer::UnalignedVbar => 10,
-        Answer::UnwritableFault => 11,
-        Answer::WideAddress => 12,
-        Answer::WideDomain => 20,
+        Ok(()) => 0,
+        Err(InjectionRefusal::UnsoundStatus) => 9,
+        Err(InjectionRefusal::UnalignedVbar) => 10,
+        Err(InjectionRefusal::UnwritableFault) => 11,
+        Err(InjectionRefusal::WideAddress) => 12,
+        Err(InjectionRefusal::WideDomain) => 20,
     }
 }

@@ -15,6 +15,7 @@ pub struct Fetch {
 }
 
 // The data access that a data abort reports. The domain is told where DFSR has one, and may be any number: above 15 is refused.
+// Kept: the domain is any byte, since one above 15 is refusal 20 (`domain_fits`, specs/Tests.antt).
 #[derive(Clone, Copy)]
 pub struct Access {
     pub fault: Fault,

@@ -6,7 +6,7 @@ mod injection;
 mod injector;
 mod report;
 
-pub use answer::{Answer, number};
+pub use answer::{InjectionRefusal, number};
 pub use exception::{FaultRegisters, Guest, Saved};
 pub use injection::{Access, Fetch, Injection, correction};
 pub use injector::{Injected, inject};

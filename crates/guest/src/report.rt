@@ -1,72 +1,62 @@
 // What an abort writes to the guest's fault registers.
 ghost use Rattle.std.specs.Prelude.{◌≡◌};
-ghost use Rattle.guest.specs.Inner.{fetch_report, access_report, report_of};
+ghost use Rattle.guest.specs.declared.injection.Injection.TheVariants.{PrefetchAbort, DataAbort};
+ghost use Rattle.guest.specs.Inner.{address_of, report_of};
 
+use crate::answer::InjectionRefusal;
 use crate::injection::{Access, Fetch, Injection};
 use exception::FaultRegisters;
-use fault::{code_in, dfsr_word, ifsr_word, is_code};
+use fault::{dfsr_word, ifsr_word};
 
 // DFSR's domain has four bits.
 const LAST_DOMAIN: u8 = 15;
 
-#[derive(Clone, Copy)]
-pub(crate) enum Report {
-    // The fault registers after the injection.
-    Registers(FaultRegisters),
-    // The fault, or else its domain, or else its address can't be written.
-    NoStatus,
-    NoDomain,
-    NoAddress,
+// The address that a fault address register holds.
+fn address_of(address: u64) -> Result<u32, InjectionRefusal>
+    ensures { result ≡ address_of address }
+{
+    u32::try_from(address).map_err(|_| InjectionRefusal::WideAddress)
 }
 
-fn fetch_report(fetch: Fetch, old: FaultRegisters, ttbcr: u32) -> Report
-    ensures { result ≡ fetch_report fetch old ttbcr }
+fn fetch_report(
+    fetch: Fetch,
+    old: FaultRegisters,
+    ttbcr: u32,
+) -> Result<FaultRegisters, InjectionRefusal>
+    ensures { result ≡ report_of (PrefetchAbort fetch) old ttbcr }
 {
-    let fault = fetch.fault;
-    let ifsr = ifsr_word(fault, ttbcr);
-    if !is_code(ifsr) {
-        return Report::NoStatus;
-    }
-    if fetch.address >= 0x1_0000_0000 {
-        return Report::NoAddress;
-    }
-    Report::Registers(FaultRegisters {
-        dfsr: old.dfsr,
-        ifsr: code_in(ifsr),
-        dfar: old.dfar,
-        ifar: fetch.address as u32,
-    })
+    let ifsr = ifsr_word(fetch.fault, ttbcr).ok_or(InjectionRefusal::UnwritableFault)?;
+    let ifar = address_of(fetch.address)?;
+    Ok(FaultRegisters { ifsr, ifar, ..old })
 }
 
-fn access_report(access: Access, old: FaultRegisters, ttbcr: u32) -> Report
-    ensures { result ≡ access_report access old ttbcr }
+fn access_report(
+    access: Access,
+    old: FaultRegisters,
+    ttbcr: u32,
+) -> Result<FaultRegisters, InjectionRefusal>
+    ensures { result ≡ report_of (DataAbort access) old ttbcr }
 {
-    let fault = access.fault;
-    let dfsr = dfsr_word(fault, access.write, access.domain, ttbcr);
-    if !is_code(dfsr) {
-        return Report::NoStatus;
-    }
+    let dfsr = dfsr_word(access.fault, access.write, access.domain, ttbcr).ok_or(
+        InjectionRefusal::UnwritableFault,
+    )?;
     if access.domain > LAST_DOMAIN {
-        return Report::NoDomain;
+        return Err(InjectionRefusal::WideDomain);
     }
-    if access.address >= 0x1_0000_0000 {
-        return Report::NoAddress;
-    }
-    Report::Registers(FaultRegisters {
-        dfsr: code_in(dfsr),
-        ifsr: old.ifsr,
-        dfar: access.address as u32,
-        ifar: old.ifar,
-    })
+    let dfar = address_of(access.address)?;
+    Ok(FaultRegisters { dfsr, dfar, ..old })
 }
 
-pub(crate) fn report_of(what: Injection, old: FaultRegisters, ttbcr: u32) -> Report
+// The fault registers after the injection, or why it is refused: the fault, or else its domain, or else its address can't be written.
+pub(crate) fn report_of(
+    what: Injection,
+    old: FaultRegisters,
+    ttbcr: u32,
+) -> Result<FaultRegisters, InjectionRefusal>
     ensures { result ≡ report_of what old ttbcr }
 {
     match what {
-        Injection::UndefinedAt => Report::Registers(old),
-        Injection::UndefinedAfter => Report::Registers(old),
-        Injection::SupervisorCall => Report::Registers(old),
+        Injection::UndefinedAt | Injection::UndefinedAfter | Injection::SupervisorCall => Ok(old),
         Injection::PrefetchAbort(fetch) => fetch_report(fetch, old, ttbcr),
         Injection::DataAbort(access) => access_report(access, old, ttbcr),
     }

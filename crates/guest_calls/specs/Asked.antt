@@ -1,8 +1,7 @@
 -- What a caller asks for by numbers.
-use Rattle.std.specs.Prelude.{ℕ, min, ◌^◌, ◌-◌, cond, eqb}
+use Rattle.std.specs.Prelude.{ℕ, min, ◌^◌, ◌-◌, cond, eqb, unwrap_or}
 use Rattle.fault.specs.declared.Fault.{Fault}
 use Rattle.guest.specs.declared.injection.Injection.{Injection}
-use Rattle.status.specs.declared.Held.{Held}
 use Rattle.status.specs.Register.{held_in}
 use Rattle.state_words.specs.Words.{is_mark}
 
@@ -32,9 +31,5 @@ injection_of injection fault level address write domain =
     (Injection.PrefetchAbort (record { fault = no_fault; address = address }))))))
 
 -- all ones where a register is held nowhere
-abbrev pub held_by : Held → ℕ
-held_by (Held.Register n) = n
-held_by Held.Nowhere = 2 ^ 32 - 1
-
 abbrev pub held_number : ℕ → ℕ → ℕ
-held_number mode number = held_by (held_in mode number)
+held_number mode number = unwrap_or (held_in mode number) (2 ^ 32 - 1)

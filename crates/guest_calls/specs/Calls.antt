@@ -1,11 +1,9 @@
 -- What each call answers: the call by value on the state that the lent words hold, by the numbers that were handed in.
-use Rattle.std.specs.Prelude.{ℕ, ◌≡◌, cond, List, [], ◌∷◌, eqb, ltb, get_or}
+use Rattle.std.specs.Prelude.{ℕ, ◌≡◌, cond, List, [], ◌∷◌, eqb, ltb, get_or, unwrap_or}
 use Rattle.signed.specs.declared.Signed.{Signed}
 use Rattle.signed.specs.Signed.{signed, sum_of}
-use Rattle.status.specs.declared.FromSpsr.{FromSpsr}
 use Rattle.status.specs.declared.Marks.{Marks}
-use Rattle.status.specs.declared.ToSpsr.{ToSpsr}
-use Rattle.status.specs.Spsr.{from_spsr, spsr_number, to_spsr, to_spsr_number}
+use Rattle.status.specs.Spsr.{from_spsr, spsr_number, to_spsr}
 use Rattle.exception.specs.declared.state.Guest.{Guest}
 use Rattle.guest.specs.declared.injection.Injection.{Injection}
 use Rattle.guest.specs.Answer.{answer_number}
@@ -29,21 +27,13 @@ abbrev pub marks_by : ℕ → ℕ → ℕ → Marks
 marks_by pan ssbs dit = record { pan = is_mark pan; ssbs = is_mark ssbs; dit = is_mark dit }
 
 -- no refusal carries a word
-abbrev pub status_in : FromSpsr → ℕ
-status_in (FromSpsr.Status w) = w
-status_in FromSpsr.Unsound = 0
-
 pub record SavedWord (pan ssbs dit spsr n word : ℕ) : Type 0 where
   pub answer : n ≡ spsr_number (from_spsr (marks_by pan ssbs dit) spsr)
-  pub status : word ≡ status_in (from_spsr (marks_by pan ssbs dit) spsr)
-
-abbrev pub spsr_in : ToSpsr → ℕ
-spsr_in (ToSpsr.Spsr w) = w
-spsr_in ToSpsr.Unsound = 0
+  pub status : word ≡ unwrap_or (from_spsr (marks_by pan ssbs dit) spsr) 0
 
 pub record WrittenWord (pan ssbs dit status n word : ℕ) : Type 0 where
-  pub answer : n ≡ to_spsr_number (to_spsr (marks_by pan ssbs dit) status)
-  pub spsr : word ≡ spsr_in (to_spsr (marks_by pan ssbs dit) status)
+  pub answer : n ≡ spsr_number (to_spsr (marks_by pan ssbs dit) status)
+  pub spsr : word ≡ unwrap_or (to_spsr (marks_by pan ssbs dit) status) 0
 
 -- ---- injections and the return
 

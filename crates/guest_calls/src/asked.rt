@@ -9,7 +9,7 @@ use guest::{Access, Fetch, Injection};
 fn byte_of(n: u32) -> u8
     ensures { result ≡ min n 255 }
 {
-    if n < 255 { n as u8 } else { 255 }
+    u8::try_from(n).unwrap_or(255)
 }
 
 // Level 0 is none: no format has such a fault.
@@ -19,7 +19,9 @@ fn no_fault() -> Fault
     Fault::Translation(0)
 }
 
+// Kept: the C interface hands faults and injections in as numbers.
 // The fault of a number.
+#[tactic(auto, unfolding(crate::specs::Asked::fault_of))]
 fn fault_of(fault: u32, level: u32) -> Fault
     ensures { result ≡ fault_of fault level }
 {
@@ -34,6 +36,7 @@ fn fault_of(fault: u32, level: u32) -> Fault
 }
 
 // The injection of a number.
+#[tactic(auto, unfolding(crate::specs::Asked::injection_of))]
 pub fn injection_of(
     injection: u32,
     fault: u32,

@@ -1,5 +1,6 @@
 // The calls.
-ghost use Rattle.std.specs.Prelude.{◌≡◌};
+ghost use Rattle.std.specs.Prelude.{◌≡◌, unwrap_or};
+ghost use Rattle.status.specs.Spsr.{spsr_number};
 ghost use Rattle.delivery.specs.Answer.{plain_answer};
 ghost use Rattle.state_words.specs.Words.{state_of};
 ghost use Rattle.pending_words.specs.Number.{queue_number, raised_by, waiting_in};
@@ -8,11 +9,12 @@ ghost use Rattle.guest_calls.specs.Calls.{marks_by, SavedWord, WrittenWord, Inje
 ghost use Rattle.guest_calls.specs.Calls.{delivery_correction, Returning};
 
 use crate::asked::injection_of;
+use delivery::DeliveryRefusal;
 use pending::Kind;
-use pending_words::{number_of, queue_of, raise_number};
+use pending_words::{kind_number, kind_of, number_of, queue_of, raise_number};
 use signed::{Signed, sum};
 use state_words::{is_mark, state_of, words_of};
-use status::{FromSpsr, Held, Marks, ToSpsr};
+use status::Marks;
 
 // What stands for a register that is held nowhere.
 const NOWHERE: u32 = 0xFFFF_FFFF;
@@ -21,10 +23,7 @@ const NOWHERE: u32 = 0xFFFF_FFFF;
 pub fn knucklepin_held_in(mode: u32, number: u32) -> u32
     ensures { result ≡ held_number mode number }
 {
-    match status::held_in(mode, number) {
-        Held::Register(n) => n,
-        Held::Nowhere => NOWHERE,
-    }
+    status::held_in(mode, number).unwrap_or(NOWHERE)
 }
 
 // The marks of a guest, by three numbers.
@@ -38,36 +37,27 @@ fn marks_by(pan: u32, ssbs: u32, dit: u32) -> Marks
     }
 }
 
+// Puts a word in its place, 0 where there is none, and gives the number of the answer.
+fn put(word: Option<u32>, place: &mut u32) -> u32
+    ensures number { result ≡ spsr_number word }
+    ensures word { place.new ≡ unwrap_or word 0 }
+{
+    *place = word.unwrap_or(0);
+    if word.is_some() { 0 } else { 9 }
+}
+
 // The guest's status word, from the word that the hypervisor saved of it.
 pub fn knucklepin_from_spsr(pan: u32, ssbs: u32, dit: u32, spsr: u32, status: &mut u32) -> u32
     ensures { SavedWord pan ssbs dit spsr result status.new }
 {
-    match status::from_spsr(marks_by(pan, ssbs, dit), spsr) {
-        FromSpsr::Status(word) => {
-            *status = word;
-            0
-        }
-        FromSpsr::Unsound => {
-            *status = 0;
-            9
-        }
-    }
+    put(status::from_spsr(marks_by(pan, ssbs, dit), spsr), status)
 }
 
 // The word to write into SPSR_EL2, from the guest's status word.
 pub fn knucklepin_to_spsr(pan: u32, ssbs: u32, dit: u32, status: u32, spsr: &mut u32) -> u32
     ensures { WrittenWord pan ssbs dit status result spsr.new }
 {
-    match status::to_spsr(marks_by(pan, ssbs, dit), status) {
-        ToSpsr::Spsr(word) => {
-            *spsr = word;
-            0
-        }
-        ToSpsr::Unsound => {
-            *spsr = 0;
-            9
-        }
-    }
+    put(status::to_spsr(marks_by(pan, ssbs, dit), status), spsr)
 }
 
 // Injects an exception.
@@ -85,16 +75,15 @@ pub fn knucklepin_inject(
     let words = *state;
     let what = injection_of(injection, fault, level, address, write, domain);
     let done = guest::inject(state_of(words), what);
-    let answer = done.answer;
-    let after = done.state;
-    *state = words_of(words, after);
-    guest::number(answer)
+    *state = words_of(words, done.state);
+    guest::number(done.answer)
 }
 
 // The number of a data abort, the last of the injections.
 const LAST_INJECTION: u32 = 4;
 
 // What an injection adds to PC for its link, modulo 2^32.
+#[tactic(auto, unfolding(crate::specs::Calls::injection_correction))]
 pub fn knucklepin_injection_correction(state: &[u32; 48], injection: u32) -> u32
     ensures { result ≡ injection_correction (state_of state.now) injection }
 {
@@ -112,14 +101,12 @@ pub fn knucklepin_raise(queue: u32, kind: u32) -> u32
     number_of(raise_number(queue_of(queue), kind))
 }
 
-fn delivered_number(answer: delivery::Answer) -> u32
+fn delivered_number(answer: Result<Option<Kind>, DeliveryRefusal>) -> u32
     ensures { result ≡ delivered_by (plain_answer answer) }
 {
     match answer {
-        delivery::Answer::Delivered(kind) => pending_words::kind_number(kind),
-        delivery::Answer::Nothing => 0,
-        delivery::Answer::UnsoundStatus => 0,
-        delivery::Answer::UnalignedVbar => 0,
+        Ok(Some(kind)) => kind_number(kind),
+        Ok(None) | Err(_) => 0,
     }
 }
 
@@ -130,24 +117,19 @@ pub fn knucklepin_deliver(state: &mut [u32; 48], pending: &mut [u32; 2]) -> u32
     let words = *state;
     let step = delivery::deliver(queue_of(pending[0]), state_of(words));
     let outcome = step.outcome;
-    let after = step.state;
-    let answer = outcome.answer;
-    let queue = outcome.queue;
-    *state = words_of(words, after);
-    *pending = [number_of(queue), delivered_number(answer)];
-    delivery::number(answer)
+    *state = words_of(words, step.state);
+    *pending = [number_of(outcome.queue), delivered_number(outcome.answer)];
+    delivery::number(outcome.answer)
 }
 
 // What the delivery of a kind adds to PC for its link, modulo 2^32.
+#[tactic(auto, unfolding(crate::specs::Calls::delivery_correction, pending_words::specs::Number::kind_of))]
 pub fn knucklepin_delivery_correction(state: &[u32; 48], kind: u32) -> u32
     ensures { result ≡ delivery_correction (state_of state.now) kind }
 {
-    let words = *state;
-    match kind {
-        1 => sum(0, delivery::correction(state_of(words), Kind::Abort)),
-        2 => sum(0, delivery::correction(state_of(words), Kind::Fiq)),
-        3 => sum(0, delivery::correction(state_of(words), Kind::Irq)),
-        _ => 0,
+    match kind_of(kind) {
+        Some(kind) => sum(0, delivery::correction(state_of(*state), kind)),
+        None => 0,
     }
 }
 
@@ -157,8 +139,6 @@ pub fn knucklepin_resume(state: &mut [u32; 48], correction: u32) -> u32
 {
     let words = *state;
     let back = resume::resume(state_of(words), Signed::Plus(correction));
-    let answer = back.answer;
-    let after = back.state;
-    *state = words_of(words, after);
-    resume::number(answer)
+    *state = words_of(words, back.state);
+    resume::number(back.answer)
 }

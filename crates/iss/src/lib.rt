@@ -17,7 +17,7 @@ pub fn condition_rule(cv: bool, cond: u32) -> bool
 pub fn addressing_rule(am: u32, direction: bool) -> bool
     ensures { result ≡ addressing_rule am direction }
 {
-    !(am == 0b101) & !(am == 0b111) & (!((am == 0b100) | (am == 0b110)) | direction)
+    !matches!(am, 0b101 | 0b111) & (!matches!(am, 0b100 | 0b110) | direction)
 }
 
 // An SMC that isn't known to have passed its condition tells no condition.
@@ -31,14 +31,14 @@ pub fn passed_rule(ccknownpass: bool, cv: bool, cond: u32) -> bool
 pub fn mmu_fault(code: u32) -> bool
     ensures { result ≡ mmu_fault code }
 {
-    (code <= 0x0F) | (code == 0x29) | (code == 0x2B)
+    matches!(code, 0x00..=0x0F | 0x29 | 0x2B)
 }
 
 // EA goes with an external abort.
 pub fn external_rule(ea: bool, code: u32) -> bool
     ensures { result ≡ external_rule ea code }
 {
-    !ea | ((0x10 <= code) & (code <= 0x1F))
+    !ea | matches!(code, 0x10..=0x1F)
 }
 
 // S1PTW goes with an MMU fault.
@@ -94,7 +94,7 @@ pub fn il_needed(class: u32, isv: bool) -> bool
 pub fn direction_rule(class: u32, direction: bool) -> bool
     ensures { result ≡ direction_rule class direction }
 {
-    !((class == 0x08) | (class == 0x0C)) | direction
+    !matches!(class, 0x08 | 0x0C) | direction
 }
 
 // The 16-bit form of an SVC, or of a BKPT, has an immediate of 8 bits.

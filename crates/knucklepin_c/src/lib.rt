@@ -1,4 +1,5 @@
 // The calls of the library for other languages, but for those that give texts: each is the call of the same name of a crate in *_calls.
+// Kept: the C interface: an exported name stands in the static library alone.
 #![tactic(auto)]
 
 mod a32_c;

@@ -4,7 +4,7 @@ use mathlib.Core.Path.{◌≡◌, refl, ◌∙◌, ap, ap₂}
 use mathlib.Core.Bool.{Bool, true, false}
 use Prim.Native.Nat.{ℕ, ◌^◌, ◌<◌}
 use lib.Dec.{T, eqb, lit≤}
-use Rattle.bits.specs.Field.{field_of, bit_of, digit}
+use Rattle.bits.specs.Field.{field_of, bit_of}
 use Rattle.bits.specs.Layout.{fitting, ordered}
 use Rattle.bits.specs.Inner.{joined_from}
 use Rattle.bits.proofs.Among.{among_each, among_other}

@@ -35,6 +35,7 @@ pub fn wfx(origin: Origin, r: Wfx) -> bool
     (r.cond < 16) & condition_from(origin, r.cv, r.cond)
 }
 
+// Kept: a function for each kind, since each kind has fields of its own.
 fn mcr(r: Mcr) -> bool
     ensures { result ≡ (fitting (mcr_fields r) && (condition_rule r.cv r.cond && direction_rule r.class r.direction)) }
 {
@@ -106,7 +107,7 @@ fn no_syndrome_rule(r: DataAbort) -> bool
 fn aarch32_access(r: DataAbort) -> bool
     ensures { result ≡ aarch32_access r }
 {
-    !r.sf & (r.sas < 3) & !(r.srt == 15) & !(r.srt == 31)
+    !r.sf & (r.sas < 3) & !matches!(r.srt, 15 | 31)
 }
 
 // ISV 1: a load or store that the guest has, and no cache maintenance or table walk.
@@ -169,7 +170,7 @@ fn watchpoint(r: Watchpoint) -> bool
 fn error_rule(aet: u32, ea: bool, code: u32) -> bool
     ensures { result ≡ error_rule aet ea code }
 {
-    (code == 0) & (aet == 0) & !ea | (code == 0x11) & ((aet <= 3) | (aet == 6))
+    (code == 0) & (aet == 0) & !ea | (code == 0x11) & matches!(aet, 0..=3 | 6)
 }
 
 fn serror(r: SError) -> bool

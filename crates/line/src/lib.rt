@@ -7,111 +7,95 @@ ghost use Rattle.std.specs.Prelude.{◌≡◌, ◌≤◌, length};
 ghost use Rattle.line.specs.Line.{word_of, digits_word, line_of};
 ghost use Rattle.line.specs.Feed.{started, fed, ended};
 
-use text::Digit;
-
-// What a line says.
+// What a line asks.
 #[derive(Clone, Copy)]
-pub enum Line {
-    Question { edition: u32, word: u64 },
-    NoLine,
-}
-
-// A word, or that there is none.
-#[derive(Clone, Copy)]
-pub enum Word {
-    Value(u64),
-    None,
+pub struct Question {
+    pub edition: u32,
+    pub word: u64,
 }
 
 // The edition, a space and the word.
-const LENGTH: usize = 18;
+pub const LENGTH: usize = 18;
 
 // The number that at most 16 hexadecimal digits make.
-fn hex_word(digits: &[u8]) -> Word
+fn hex_word(digits: &[u8]) -> Option<u64>
     requires { length digits.now ≤ 16 }
     ensures { result ≡ word_of digits.now }
 {
     let mut value: u64 = 0;
-    let mut i = 0;
-    while i < digits.len() {
-        let Digit::Value(digit) = text::hex_digit(digits[i]) else {
-            return Word::None;
-        };
+    for &byte in digits {
+        let digit = text::hex_digit(byte)?;
         value = value * 16 + digit as u64;
-        i += 1;
     }
-    Word::Value(value)
+    Some(value)
 }
 
 // The word of at most 16 hexadecimal digits. More are none.
-pub fn number(digits: &[u8]) -> Word
+pub fn number(digits: &[u8]) -> Option<u64>
     ensures { result ≡ digits_word digits.now }
 {
     if digits.len() <= 16 {
         hex_word(digits)
     } else {
-        Word::None
+        None
     }
 }
 
 // Reads a line, without its newline.
-pub fn parse(line: &[u8]) -> Line
+#[tactic(auto, unfolding(crate::specs::Line::line_of))]
+pub fn parse(line: &[u8]) -> Option<Question>
     ensures { result ≡ line_of line.now }
 {
     if line.len() != LENGTH {
-        return Line::NoLine;
+        return None;
     }
     if line[1] != b' ' {
-        return Line::NoLine;
+        return None;
     }
-    let Digit::Value(edition) = text::hex_digit(line[0]) else {
-        return Line::NoLine;
-    };
-    let Word::Value(word) = hex_word(&line[2..]) else {
-        return Line::NoLine;
-    };
-    Line::Question { edition, word }
+    let edition = text::hex_digit(line[0])?;
+    let word = hex_word(&line[2..])?;
+    Some(Question { edition, word })
 }
 
-// A line as far as it has come: its first bytes, and how many came, counted no further than one past a whole line.
+// A line as far as it has come: its first bytes, and how many came, counted no further than one past the longest line, of N bytes.
+// Kept: fixed memory, and a count that goes one past the room, which no slice has.
 #[derive(Clone, Copy)]
-pub struct State {
-    pub bytes: [u8; 18],
+pub struct State<const N: usize> {
+    pub bytes: [u8; N],
     pub count: usize,
 }
 
-pub fn start() -> State
-    ensures { result ≡ started }
+pub fn start<const N: usize>() -> State<N>
+    ensures { result ≡ started N }
 {
     State {
-        bytes: [0; 18],
+        bytes: [0; N],
         count: 0,
     }
 }
 
 // One more byte of the line. A line that is too long stays so, whatever it goes on with.
-pub fn feed(state: State, byte: u8) -> State
-    ensures { result ≡ fed state byte }
+pub fn feed<const N: usize>(state: State<N>, byte: u8) -> State<N>
+    ensures { result ≡ fed N state.entry byte }
 {
     let mut next = state;
     let count = next.count;
-    if count < LENGTH {
+    if count < N {
         next.bytes[count] = byte;
         next.count = count + 1;
     } else {
-        next.count = LENGTH + 1;
+        next.count = N + 1;
     }
     next
 }
 
 // What the line says that came.
-pub fn finish(state: State) -> Line
+pub fn finish(state: State<LENGTH>) -> Option<Question>
     ensures { result ≡ ended state }
 {
-    let bytes = state.bytes;
     if state.count == LENGTH {
-        parse(&bytes)
+        parse(&state.bytes)
     } else {
-        Line::NoLine
+        None
     }
 }

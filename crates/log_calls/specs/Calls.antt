@@ -1,7 +1,7 @@
 -- What each call answers, as numbers: that of the call by value.
-use Rattle.std.specs.Prelude.{ℕ, ◌≡◌, List, [], ◌∷◌, length}
+use Rattle.std.specs.Prelude.{ℕ, ◌≡◌, Option, Some, None, Result, List, [], ◌∷◌, length}
 use Rattle.trap_log.specs.Answer.{number_of, gone_in, section_in}
-use Rattle.trap_log.specs.declared.answer.Read.{Read}
+use Rattle.trap_log.specs.declared.answer.LogRefusal.{LogRefusal}
 use Rattle.log_section.specs.declared.section.Section.{Section}
 use Rattle.log_section.specs.declared.entry.Entry.{Entry}
 use Rattle.log_section.specs.declared.entry.Look.{Look}
@@ -11,39 +11,39 @@ use Rattle.log_writer.specs.Write.{written_of, length_in, buffer_after}
 use Rattle.log_writer.specs.Write as writer
 
 -- how many counts and entries were gone through, 0 on a refusal, and the section of refusal 13
-pub record ReadLog (a : Read) (n : ℕ) (w : List ℕ) : Type 0 where
+pub record ReadLog (a : Result ℕ LogRefusal) (n : ℕ) (w : List ℕ) : Type 0 where
   pub answer : n ≡ number_of a
   pub words : w ≡ gone_in a ∷ section_in a ∷ []
 
-abbrev pub whole_in : Section → ℕ
-whole_in (Section.Whole count end) = 1
-whole_in Section.None = 0
+abbrev pub whole_in : Option Section → ℕ
+whole_in (Some section) = 1
+whole_in None = 0
 
-abbrev pub count_in : Section → ℕ
-count_in (Section.Whole count end) = count
-count_in Section.None = 0
+abbrev pub count_in : Option Section → ℕ
+count_in (Some section) = section.count
+count_in None = 0
 
 -- the section that has such entries, 1 to 4
-abbrev pub entry_in : Entry → ℕ
-entry_in (Entry.Edition edition) = 1
-entry_in (Entry.Syndrome esr) = 2
-entry_in (Entry.Address far hpfar) = 3
-entry_in (Entry.Injection injection domain) = 4
-entry_in Entry.None = 0
+abbrev pub entry_in : Option Entry → ℕ
+entry_in (Some (Entry.Edition edition)) = 1
+entry_in (Some (Entry.Syndrome esr)) = 2
+entry_in (Some (Entry.Address far hpfar)) = 3
+entry_in (Some (Entry.Injection injection domain)) = 4
+entry_in None = 0
 
-abbrev pub first_in : Entry → ℕ
-first_in (Entry.Edition edition) = edition
-first_in (Entry.Syndrome esr) = esr.0
-first_in (Entry.Address far hpfar) = far.0
-first_in (Entry.Injection injection domain) = injection
-first_in Entry.None = 0
+abbrev pub first_in : Option Entry → ℕ
+first_in (Some (Entry.Edition edition)) = edition
+first_in (Some (Entry.Syndrome esr)) = esr.0
+first_in (Some (Entry.Address far hpfar)) = far.0
+first_in (Some (Entry.Injection injection domain)) = injection
+first_in None = 0
 
-abbrev pub second_in : Entry → ℕ
-second_in (Entry.Edition edition) = 0
-second_in (Entry.Syndrome esr) = 0
-second_in (Entry.Address far hpfar) = hpfar.0
-second_in (Entry.Injection injection domain) = domain
-second_in Entry.None = 0
+abbrev pub second_in : Option Entry → ℕ
+second_in (Some (Entry.Edition edition)) = 0
+second_in (Some (Entry.Syndrome esr)) = 0
+second_in (Some (Entry.Address far hpfar)) = hpfar.0
+second_in (Some (Entry.Injection injection domain)) = domain
+second_in None = 0
 
 abbrev pub found_in : Look → List ℕ
 found_in l =

@@ -5,9 +5,9 @@ ghost use Rattle.std.specs.Prelude.{◌≡◌};
 ghost use Rattle.trap_log.specs.Answer.{read_of};
 ghost use Rattle.log_reader.specs.Reader.{look_in};
 ghost use Rattle.log_writer.specs.Lists.{Lists};
-ghost use Rattle.log_calls.specs.Calls.{ReadLog, whole_in, count_in, entry_in, first_in, second_in, found_in, WrittenLog};
+ghost use Rattle.log_calls.specs.Calls.{ReadLog, entry_in, first_in, second_in, found_in, WrittenLog};
 
-use trap_log::{Entry, Section};
+use trap_log::Entry;
 
 // Reads a log.
 pub fn knucklepin_log_read(log: &[u8], answer: &mut [u64; 2]) -> u32
@@ -21,67 +21,54 @@ pub fn knucklepin_log_read(log: &[u8], answer: &mut [u64; 2]) -> u32
     trap_log::number(read)
 }
 
-fn whole_in(section: Section) -> u64
-    ensures { result ≡ whole_in section }
-{
-    match section {
-        Section::Whole { count: _, end: _ } => 1,
-        Section::None => 0,
-    }
-}
-
-fn count_in(section: Section) -> u64
-    ensures { result ≡ count_in section }
-{
-    match section {
-        Section::Whole { count, end: _ } => count as u64,
-        Section::None => 0,
-    }
-}
-
 // The section that has such entries, 1 to 4; 0 for no entry.
-fn entry_in(entry: Entry) -> u64
+// Kept: numbers for kinds, in the C interface (`knucklepin_log_look`).
+fn entry_in(entry: Option<Entry>) -> u64
     ensures { result ≡ entry_in entry }
 {
     match entry {
-        Entry::Edition(_) => 1,
-        Entry::Syndrome(_) => 2,
-        Entry::Address { far: _, hpfar: _ } => 3,
-        Entry::Injection {
-            injection: _,
-            domain: _,
-        } => 4,
-        Entry::None => 0,
+        Some(Entry::Edition(_)) => 1,
+        Some(Entry::Syndrome(_)) => 2,
+        Some(Entry::Address { far: _, hpfar: _ }) => 3,
+        Some(
+            Entry::Injection {
+                injection: _,
+                domain: _,
+            },
+        ) => 4,
+        None => 0,
     }
 }
 
-fn first_in(entry: Entry) -> u64
+fn first_in(entry: Option<Entry>) -> u64
     ensures { result ≡ first_in entry }
 {
     match entry {
-        Entry::Edition(edition) => edition as u64,
-        Entry::Syndrome(esr) => esr.0,
-        Entry::Address { far, hpfar: _ } => far.0,
-        Entry::Injection {
-            injection,
-            domain: _,
-        } => injection as u64,
-        Entry::None => 0,
+        Some(Entry::Edition(edition)) => edition as u64,
+        Some(Entry::Syndrome(esr)) => esr.0,
+        Some(Entry::Address { far, hpfar: _ }) => far.0,
+        Some(
+            Entry::Injection {
+                injection,
+                domain: _,
+            },
+        ) => injection as u64,
+        None => 0,
     }
 }
 
-fn second_in(entry: Entry) -> u64
+fn second_in(entry: Option<Entry>) -> u64
     ensures { result ≡ second_in entry }
 {
     match entry {
-        Entry::Edition(_) => 0,
-        Entry::Syndrome(_) => 0,
-        Entry::Address { far: _, hpfar } => hpfar.0,
-        Entry::Injection {
-            injection: _,
-            domain,
-        } => domain as u64,
-        Entry::None => 0,
+        Some(Entry::Address { far: _, hpfar }) => hpfar.0,
+        Some(
+            Entry::Injection {
+                injection: _,
+                domain,
+            },
+        ) => domain as u64,
+        _ => 0,
     }
 }
 
@@ -90,14 +77,16 @@ pub fn knucklepin_log_look(log: &[u8], passed: u32, i: u64, found: &mut [u64; 5]
     ensures { found.new ≡ found_in (look_in log.now passed i) }
 {
     let look = log_reader::look_in(log, passed, i as usize);
-    let section = look.section;
-    let entry = look.entry;
+    let (whole, count) = match look.section {
+        Some(section) => (1, section.count as u64),
+        None => (0, 0),
+    };
     *found = [
-        whole_in(section),
-        count_in(section),
-        entry_in(entry),
-        first_in(entry),
-        second_in(entry),
+        whole,
+        count,
+        entry_in(look.entry),
+        first_in(look.entry),
+        second_in(look.entry),
     ];
 }
 

@@ -11,7 +11,7 @@ use lib.ListN.{length, length-drop}
 use Rattle.log_section.specs.Section.{injection_size, count_of, end_of, whole_of, after_of, rest_after, whole_after}
 use Rattle.log_section.specs.Log.{entries_of}
 use Rattle.trap_log.specs.Answer.{read_of}
-use Rattle.trap_log.specs.declared.answer.Read.TheVariants.{Accepted}
+use Rattle.std.specs.Prelude.{Ok}
 use Rattle.log_section.proofs.Found.{whole_is}
 use Rattle.trap_log.proofs.RoundTrip.{accepts}
 use Rattle.log_cut.specs.Whole.{standing, whole_entries, count_in}
@@ -20,7 +20,7 @@ use Rattle.log_cut.proofs.Standings.{all_standing}
 use Rattle.log_cut.proofs.Given.{standing_counted, injections_counted}
 
 module _ (s : List ℕ) where
-  pub accepted_whole : {gone : ℕ} → read_of s ≡ Accepted gone → whole_entries s ≡ entries_of s
+  pub accepted_whole : {gone : ℕ} → read_of s ≡ Ok gone → whole_entries s ≡ entries_of s
   unfolding whole_entries entries_of
   accepted_whole e =
       let a = accepts s e in

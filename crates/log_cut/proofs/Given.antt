@@ -7,6 +7,7 @@ use Prim.Native.Nat.{ℕ, zero, suc, ◌+◌, ◌*◌, ◌≤◌, ◌<◌}
 use native.Mathlib.Omega.{arith}
 use borrow.Author.Tests.{lt-ltb, le-ltb, ltb-true}
 use lib.Dec.{ltb}
+use Rattle.std.specs.Prelude.{Some, None}
 use lib.ListN.{length, drop, get_or, length-drop}
 use lib.Seq.{drop-drop}
 use Rattle.log_section.specs.Section.{injection_size, sizes, rest_after, count_after, whole_after}
@@ -16,7 +17,7 @@ use Rattle.log_section.specs.declared.entry.Entry.{Entry}
 use Rattle.log_section.proofs.Codec.{entries_count, entry_at_lem}
 use Rattle.log_section.proofs.Found.{whole_is}
 use Rattle.log_section.proofs.Places.{entry_here}
-use Rattle.log_cut.specs.Whole.{standing, whole_entries, count_in, whole_count, whole_entry, cut_of, cut_after}
+use Rattle.log_cut.specs.Whole.{standing, whole_entries, count_in, whole_count, whole_entry, cut_after}
 use Rattle.log_cut.specs.declared.Cut.{Cut}
 use Rattle.log_cut.proofs.Standings.{standing_room}
 
@@ -24,9 +25,6 @@ use Rattle.log_cut.proofs.Standings.{standing_room}
 module _ (s : List ℕ) where
   pub cut_nowhere : (n : ℕ) → 4 ≤ n → Cut.Count 0 ≡ cut_after s n
   cut_nowhere n h = sym (simp (le-ltb n 4 h))
-
-  pub cut_there : (n : ℕ) → n < 4 → cut_of (get_or sizes n 0) (rest_after s n) ≡ cut_after s n
-  cut_there n h = sym (simp (lt-ltb n 4 h))
 
   pub none_counted : (n : ℕ) → 4 ≤ n → 0 ≡ whole_count s n
   none_counted n h = sym (simp (le-ltb n 4 h))
@@ -93,7 +91,7 @@ module _ (s : List ℕ) where
       ∙ entry_at_lem injection_size injection_in (count_after s 3) (body_after s 3) i 0 all.1))
   read_in (suc (suc (suc (suc n)))) i k h = absurd (omega arith)
 
-  pub no_entry_past : (n i : ℕ) → whole_count s n ≤ i → Entry.None ≡ whole_entry s n i
+  pub no_entry_past : (n i : ℕ) → whole_count s n ≤ i → None ≡ whole_entry s n i
   no_entry_past n i h = sym (simp (le-ltb i (whole_count s n) h))
 
   -- behind the section's start
@@ -110,5 +108,5 @@ module _ (s : List ℕ) where
     pub entry_there : entry_at s n (at + 4 + i * get_or sizes n 0) ≡ whole_entry s n i
     entry_there =
         let h = in_a_section n i k in
-        sym (entry_here s n (at + 4 + i * get_or sizes n 0) h room_there) ∙ ap (entry_in n) there ∙ read_in n i k h
+        sym (entry_here s n (at + 4 + i * get_or sizes n 0) h room_there) ∙ ap Some (ap (entry_in n) there ∙ read_in n i k h)
         ∙ sym (simp (lt-ltb i (whole_count s n) k))

@@ -10,6 +10,7 @@ use native.Mathlib.Numerals.{add-one}
 use native.Mathlib.Omega.{arith}
 use borrow.Author.Tests.{leb-false}
 use lib.Dec.{leb}
+use Rattle.std.specs.Prelude.{Option, Some, None}
 use lib.ListN.{length, take, drop, get_or, length-drop, drop_of_length-le}
 use lib.Seq.{drop-nil, drop-length, take_all}
 use Rattle.log_section.specs.Section.{sizes, end_of, whole_of, after_of, rest_after}
@@ -51,16 +52,16 @@ module _ (s : List ℕ) where
     where
       go : (start_after s (suc k) ≤ length s
           → Reached s (suc k + n) (skip_from s n record { passed = suc k; at = start_after s (suc k) }))
-          → (x : Section) → section_at s k (start_after s k) ≡ x
+          → (x : Option Section) → section_at s k (start_after s k) ≡ x
           → Reached s (k + suc n) (skip_from s n (moved_past x record { passed = k; at = start_after s k }))
-      go on (Section.Whole count end) e =
+      go on (Some section) e =
           let st = standing s k (start_after s k) e in
-          let next : start_after s k + end ≡ start_after s (suc k) =
+          let next : start_after s k + section.end ≡ start_after s (suc k) =
           ap (λ (m : ℕ). start_after s k + m) (st.here.ends ∙ ap (end_of (get_or sizes k 0)) (sym (rest_at s k))) in
           let same : suc k + n ≡ k + suc n = omega arith in
           let within : start_after s (suc k) ≤ length s = omega (arith, next, end_in s k (start_after s k) st) in
           rw (add-one k, next) (rw same at (on within))
-      go on Section.None e =
+      go on None e =
           let p : Place = record { passed = k; at = start_after s k } in
           let cut = not_found (get_or sizes k 0) (drop (start_after s k) s) (place_in s k (start_after s k) (omega arith) w ∙ e) in
           let empty : rest_after s (suc k) ≡ [] = ap (after_of (get_or sizes k 0)) (rest_at s k) ∙ nothing_after (get_or sizes k 0) _ cut in

@@ -1,35 +1,30 @@
 -- Where the section is cut that some bytes begin with, and how many entries stand whole before the cut.
 -- Assumes nothing.
-use mathlib.Core.Path.{◌≡◌, refl, sym, ap, ◌∙◌}
+use mathlib.Core.Path.{◌≡◌, refl, sym}
 use mathlib.Core.Bool.{Bool, true, false, cond}
 use mathlib.Core.List.{List}
-use Prim.Native.Nat.{ℕ, suc, ◌+◌, ◌-◌, ◌*◌, ◌/◌, ◌≤◌, ◌<◌, min}
-use native.Mathlib.Nat.{min-le_right, min-eq_left, min-eq_right, le-div_iff_mul-le, div-le_self, suc-mul}
+use Prim.Native.Nat.{ℕ, suc, ◌+◌, ◌-◌, ◌*◌, ◌/◌, ◌≤◌, ◌<◌}
+use native.Mathlib.Nat.{min-le_right, min-eq_left, le-div_iff_mul-le, div-le_self, suc-mul}
 use native.Mathlib.Omega.{arith}
 use borrow.Author.Tests.{le-leb, lt-leb, leb-false}
 use lib.Dec.{leb}
+use Rattle.std.specs.Prelude.{Some, None}
 use lib.ListN.{length}
-use Rattle.log_section.specs.Section.{count_of, whole_of, section_of}
+use Rattle.log_section.specs.Section.{count_of, section_of}
 use Rattle.log_section.specs.declared.section.Section.{Section}
 use Rattle.log_section.proofs.Found.{Whole, whole_is, found, not_found}
 use Rattle.log_cut.specs.Whole.{standing, cut_of}
 use Rattle.log_cut.specs.declared.Cut.{Cut}
 use Rattle.log_cut.proofs.Rests.{past_end}
 
-pub smaller_first : {a b : ℕ} → a < b → a ≡ min a b
-smaller_first h = sym (min-eq_left (omega arith))
-
-pub smaller_second : {a b : ℕ} → b ≤ a → b ≡ min a b
-smaller_second h = sym (min-eq_right h)
-
 -- a count that is whole, and one that isn't: entries of no size take no bytes
 module _ (rest : List ℕ) where
-  pub count_whole : {count end : ℕ} → section_of 0 rest ≡ Section.Whole count end → (4 ≤ length rest) × (count ≡ count_of rest)
+  pub count_whole : {x : Section} → section_of 0 rest ≡ Some x → (4 ≤ length rest) × (x.count ≡ count_of rest)
   count_whole e =
       let f = found 0 rest e in
       ((whole_is 0 rest f.test).counted, f.counts)
 
-  pub count_cut : section_of 0 rest ≡ Section.None → length rest < 4
+  pub count_cut : section_of 0 rest ≡ None → length rest < 4
   count_cut e = omega (arith, past_end 0 rest (not_found 0 rest e))
 
 module _ (size : ℕ) (rest : List ℕ) where
@@ -75,13 +70,3 @@ module _ (size : ℕ) (rest : List ℕ) where
     all_standing w =
         let room : count_of rest * size ≤ length rest - 4 = omega (arith, w.within) in
         min-eq_left ((le-div_iff_mul-le some).1 room)
-
--- how many injections there are, where their section is whole
-module _ (size : ℕ) (rest : List ℕ) where
-  pub counted_whole : {count end : ℕ} → section_of size rest ≡ Section.Whole count end → count ≡ cond (whole_of size rest) (count_of rest) 0
-  counted_whole e =
-      let f = found size rest e in
-      f.counts ∙ sym (ap (λ (t : Bool). cond t (count_of rest) 0) f.test)
-
-  pub counted_cut : section_of size rest ≡ Section.None → 0 ≡ cond (whole_of size rest) (count_of rest) 0
-  counted_cut e = sym (ap (λ (t : Bool). cond t (count_of rest) 0) (not_found size rest e))

@@ -1,5 +1,5 @@
 -- What stands whole in a log's bytes: every entry of a log that was accepted, and of one that is cut short those that precede the cut.
-use Rattle.std.specs.Prelude.{ℕ, zero, suc, ◌-◌, ◌/◌, min, cond, List, [], leb, ltb, length, get_or}
+use Rattle.std.specs.Prelude.{ℕ, zero, suc, ◌-◌, ◌/◌, min, cond, Option, Some, None, List, [], leb, ltb, length, get_or}
 use Rattle.log_section.specs.Section.{sizes, count_of, rest_after, whole_after}
 use Rattle.log_section.specs.Log.{Entries, byte_in, bytes_word, pair_in, entries_in, body_after, injections_of}
 use Rattle.log_section.specs.Look.{entry_given}
@@ -32,8 +32,8 @@ count_in e (suc (suc (suc n))) = length e.injections
 abbrev pub whole_count : List ℕ → ℕ → ℕ
 whole_count s n = cond (ltb n 4) (count_in (whole_entries s) n) 0
 
-abbrev pub whole_entry : List ℕ → ℕ → ℕ → Entry
-whole_entry s n i = cond (ltb i (whole_count s n)) (entry_given (whole_entries s) n i) Entry.None
+abbrev pub whole_entry : List ℕ → ℕ → ℕ → Option Entry
+whole_entry s n i = cond (ltb i (whole_count s n)) (Some (entry_given (whole_entries s) n i)) None
 
 -- WHERE A SECTION IS CUT: within its count, or behind it. The count is as it stands, whatever it says.
 abbrev pub cut_of : ℕ → List ℕ → Cut

@@ -2,11 +2,11 @@
 // how many lie before it.
 #![tactic(auto)]
 
-ghost use Rattle.std.specs.Prelude.{◌≡◌, cond, ◌≤◌, ◌<◌, min, length, drop};
+ghost use Rattle.std.specs.Prelude.{◌≡◌, cond, ◌≤◌, ◌<◌, length, drop};
 ghost use Rattle.log_section.specs.Section.{injection_size, count_of, whole_of, rest_after};
 ghost use Rattle.log_cut.specs.Whole.{standing, whole_count, whole_entry, cut_of, cut_after};
 
-use trap_log::{Entry, Section};
+use trap_log::Entry;
 
 // Where a section is cut.
 #[derive(Clone, Copy)]
@@ -36,12 +36,6 @@ fn start(log: &[u8], passed: u32) -> usize
     log.len()
 }
 
-fn smaller(a: usize, b: usize) -> usize
-    ensures { result ≡ min a b }
-{
-    if a < b { a } else { b }
-}
-
 // Where the section is cut that some bytes begin with. A section whose entries have no size is whole where its count is.
 fn cut_in(rest: &[u8], size: u32) -> Cut
     requires { 0 < size }
@@ -49,16 +43,17 @@ fn cut_in(rest: &[u8], size: u32) -> Cut
 {
     let bytes = rest.len();
     match trap_log::front(rest, 0) {
-        Section::Whole { count, end: _ } => {
+        Some(section) => {
+            let count = section.count;
             let behind = bytes - 4;
-            let whole = smaller(count, behind / (size as usize));
+            let whole = count.min(behind / (size as usize));
             Cut::Entries {
                 whole,
                 count,
                 bytes: behind,
             }
         }
-        Section::None => Cut::Count { bytes },
+        None => Cut::Count { bytes },
     }
 }
 
@@ -82,8 +77,8 @@ fn injections_in(rest: &[u8]) -> usize
     ensures { result ≡ cond (whole_of injection_size rest.now) (count_of rest.now) 0 }
 {
     match trap_log::front(rest, trap_log::size_of(3)) {
-        Section::Whole { count, end: _ } => count,
-        Section::None => 0,
+        Some(section) => section.count,
+        None => 0,
     }
 }
 
@@ -113,11 +108,11 @@ pub fn count(log: &[u8], passed: u32) -> usize
 }
 
 // Entry i of those of a section that stand whole.
-pub fn entry(log: &[u8], passed: u32, i: usize) -> Entry
+pub fn entry(log: &[u8], passed: u32, i: usize) -> Option<Entry>
     ensures { result ≡ whole_entry log.now passed i }
 {
     if count(log, passed) <= i {
-        return Entry::None;
+        return None;
     }
     let at = start(log, passed);
     let place = at + 4 + i * (trap_log::size_of(passed) as usize);

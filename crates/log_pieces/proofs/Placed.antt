@@ -12,7 +12,8 @@ use Rattle.trap_log.specs.Answer.{read_of}
 use Rattle.log_cut.specs.Whole.{count_in}
 use Rattle.log_text.specs.Cut.{syndrome_text}
 use Rattle.log_text.specs.Lines.{edition_text}
-use Rattle.text.specs.Append.{Appends}
+use Rattle.text.specs.Append.{Extends}
+use Rattle.text.specs.declared.Text.{Text}
 use Rattle.log_pieces.specs.Text.{shown, seen_mask, trap_piece, trap_pieces, injection_piece, entry_pieces, first_text, last_text}
 use Rattle.log_pieces.specs.Text.{later_pieces, pieces_in, pieces_of}
 
@@ -158,5 +159,5 @@ later_piece seen explained s (suc i) n =
     let e : suc i - 1 ≡ i = omega arith in
     rw e
 
-pub same_text : {xs ys before after : List ℕ} {at end : ℕ} → xs ≡ ys → Appends xs before at after end → Appends ys before at after end
-same_text {before = before} {after} {at} {end} e a = subst (λ (text : List ℕ). Appends text before at after end) e a
+pub same_text : {xs ys : List ℕ} {old new : Text} → xs ≡ ys → Extends xs old new → Extends ys old new
+same_text {old = old} {new} e a = subst (λ (text : List ℕ). Extends text old new) e a

@@ -7,7 +7,8 @@ use native.Mathlib.Omega.{arith}
 use lib.ListN.{length, get_or, length-append}
 use Rattle.trap_log.specs.Answer.{section_in, read_of}
 use Rattle.log_section.specs.Log.{Address, Entries, injection_byte, domain_of}
-use Rattle.trap_log.specs.declared.answer.Read.{Read}
+use Rattle.std.specs.Prelude.{Result}
+use Rattle.trap_log.specs.declared.answer.LogRefusal.{LogRefusal}
 use Rattle.log_cut.specs.Whole.{cut_after}
 use Rattle.log_text.proofs.CutRoom.{syndrome_length, cut_length}
 use Rattle.log_text.specs.Lines.{read_text, edition_text}
@@ -51,7 +52,7 @@ short_entries_lem seen explained e =
     (short_map injection_piece (λ n. omega (arith, injection_length (injection_byte n) (domain_of n))) e.injections))
 
 -- how the log was read, and where it is cut
-first_short : (a : Read) → Short (first_text a)
+first_short : (a : Result ℕ LogRefusal) → Short (first_text a)
 first_short a = go (is_cut a)
   where
     go : (t : Bool) → Short (read_text a ++ cond t (ascii "what precedes the cut, if the counts are right:\n") [])

@@ -13,7 +13,8 @@ use Rattle.registers.specs.declared.Hpfar.{Hpfar}
 use Rattle.log_section.specs.Log.{entries_of}
 use Rattle.trap_log.specs.Answer.{number_of, read_of}
 use Rattle.log_section.specs.Look.{entry_given}
-use Rattle.trap_log.specs.declared.answer.Read.TheVariants.{Accepted, TooLong, CutShort, LeftOver, Unequal, WideDomain}
+use Rattle.std.specs.Prelude.{Option, Some, Ok, Err}
+use Rattle.trap_log.specs.declared.answer.LogRefusal.TheVariants.{TooLong, CutShort, LeftOver, Unequal, WideDomain}
 use Rattle.log_section.specs.declared.entry.Entry.{Entry}
 use Rattle.registers.specs.declared.Esr.{Esr}
 use Rattle.log_cut.specs.Whole.{whole_entries, count_in, whole_count, whole_entry}
@@ -30,22 +31,22 @@ module _ (s : List ℕ) where
   shown_none z = ap (λ (t : Bool). cond t (whole_entries s) nothing) z
 
   -- SHOWN: by how the log was read
-  pub accepted_shown : {gone : ℕ} → read_of s ≡ Accepted gone → shown s ≡ entries_of s
+  pub accepted_shown : {gone : ℕ} → read_of s ≡ Ok gone → shown s ≡ entries_of s
   accepted_shown e = shown_whole (ap is_shown e) ∙ accepted_whole s e
 
-  pub cut_shown : {section : ℕ} → read_of s ≡ CutShort section → shown s ≡ whole_entries s
+  pub cut_shown : {section : ℕ} → read_of s ≡ Err (CutShort section) → shown s ≡ whole_entries s
   cut_shown e = shown_whole (ap is_shown e)
 
-  pub left_over_not_shown : read_of s ≡ LeftOver → shown s ≡ nothing
+  pub left_over_not_shown : read_of s ≡ Err LeftOver → shown s ≡ nothing
   left_over_not_shown e = shown_none (ap is_shown e)
 
-  pub unequal_not_shown : read_of s ≡ Unequal → shown s ≡ nothing
+  pub unequal_not_shown : read_of s ≡ Err Unequal → shown s ≡ nothing
   unequal_not_shown e = shown_none (ap is_shown e)
 
-  pub wide_domain_not_shown : read_of s ≡ WideDomain → shown s ≡ nothing
+  pub wide_domain_not_shown : read_of s ≡ Err WideDomain → shown s ≡ nothing
   wide_domain_not_shown e = shown_none (ap is_shown e)
 
-  pub too_long_not_shown : read_of s ≡ TooLong → shown s ≡ nothing
+  pub too_long_not_shown : read_of s ≡ Err TooLong → shown s ≡ nothing
   too_long_not_shown e = shown_none (ap is_shown e)
 
   -- by the answer's number
@@ -77,7 +78,7 @@ module _ (s : List ℕ) where
       go false e = not-any e
 
   -- the entry that stands whole is the one that is shown
-  pub entry_shown : (n i : ℕ) → n < 4 → i < count_in (shown s) n → whole_entry s n i ≡ entry_given (shown s) n i
+  pub entry_shown : (n i : ℕ) → n < 4 → i < count_in (shown s) n → whole_entry s n i ≡ Some (entry_given (shown s) n i)
   entry_shown n i h k =
       either
       (λ z.
@@ -91,11 +92,11 @@ module _ (s : List ℕ) where
       either (λ z. rw (shown_whole z) (few_whole s)) (λ z. omega (arith, count_none 0 z, count_none 1 z, count_none 3 z))
 
 -- two entries of one kind that are the same have the same words
-pub same_edition : {x : Entry} {a b : ℕ} → x ≡ Entry.Edition a → x ≡ Entry.Edition b → a ≡ b
+pub same_edition : {x : Option Entry} {a b : ℕ} → x ≡ Some (Entry.Edition a) → x ≡ Some (Entry.Edition b) → a ≡ b
 same_edition p q = cc
 
-pub same_syndrome : {x : Entry} {a b : Esr} → x ≡ Entry.Syndrome a → x ≡ Entry.Syndrome b → a ≡ b
+pub same_syndrome : {x : Option Entry} {a b : Esr} → x ≡ Some (Entry.Syndrome a) → x ≡ Some (Entry.Syndrome b) → a ≡ b
 same_syndrome p q = cc
 
-pub same_address : {x : Entry} {a b : Far} {f g : Hpfar} → x ≡ Entry.Address a f → x ≡ Entry.Address b g → (a ≡ b) × (f ≡ g)
+pub same_address : {x : Option Entry} {a b : Far} {f g : Hpfar} → x ≡ Some (Entry.Address a f) → x ≡ Some (Entry.Address b g) → (a ≡ b) × (f ≡ g)
 same_address p q = (cc, cc)

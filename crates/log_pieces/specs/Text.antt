@@ -1,13 +1,13 @@
 -- The text of a log: how the log was read; of a log that was accepted, or is cut short, the editions seen, in the log's order, each trap
 -- with its registers and what each known edition among those seen makes of it, explained where that is asked for, and the injections; and
 -- of one that is cut short, that this is what precedes the cut, and where the cut is.
-use Rattle.std.specs.Prelude.{ℕ, zero, suc, ◌-◌, Bool, cond, ◌||◌, eqb, get_or}
+use Rattle.std.specs.Prelude.{ℕ, zero, suc, ◌-◌, Bool, cond, ◌||◌, Result, eqb, get_or}
 use mathlib.Core.List.{List, [], ◌∷◌, ◌++◌, map, flatten}
 use Rattle.bits.specs.Among.{among}
 use Rattle.edition.specs.Mask.{mask_of}
 use Rattle.log_section.specs.Log.{Address, Entries, injection_byte, domain_of}
 use Rattle.trap_log.specs.Answer.{number_of, section_in, read_of}
-use Rattle.trap_log.specs.declared.answer.Read.{Read}
+use Rattle.trap_log.specs.declared.answer.LogRefusal.{LogRefusal}
 use Rattle.log_cut.specs.Whole.{whole_entries, cut_after}
 use Rattle.log_text.specs.Cut.{syndrome_text, cut_text}
 use Rattle.log_text.specs.Lines.{read_text, edition_text, injection_text}
@@ -16,10 +16,10 @@ use Rattle.trap_text.specs.Shown.{trap_text}
 
 -- the entries that are shown: those that stand whole in a log that was accepted or is cut short (13), and none of one that is refused
 -- otherwise
-abbrev pub is_cut : Read → Bool
+abbrev pub is_cut : Result ℕ LogRefusal → Bool
 is_cut a = eqb (number_of a) 13
 
-abbrev pub is_shown : Read → Bool
+abbrev pub is_shown : Result ℕ LogRefusal → Bool
 is_shown a = eqb (number_of a) 0 || is_cut a
 
 abbrev pub nothing : Entries
@@ -53,7 +53,7 @@ entry_pieces seen explained e =
     ++ (trap_pieces seen explained e.syndromes e.addresses ++ map injection_piece e.injections)
 
 -- the first piece, how the log was read, and the last, where it is cut
-abbrev pub first_text : Read → List ℕ
+abbrev pub first_text : Result ℕ LogRefusal → List ℕ
 first_text a = read_text a ++ cond (is_cut a) (ascii "what precedes the cut, if the counts are right:\n") []
 
 abbrev pub cut_in : List ℕ → ℕ → List ℕ

@@ -7,16 +7,15 @@ ghost use Rattle.log_cut.specs.Whole.{count_in};
 ghost use Rattle.bits.specs.Among.{among};
 ghost use Rattle.log_pieces.specs.Text.{is_shown, shown, seen_mask};
 
-use trap_log::Entry;
+use trap_log::{Entry, LogRefusal};
 
 fn is_shown(log: &[u8]) -> bool
     ensures { result ≡ is_shown (read_of log.now) }
 {
-    let number = trap_log::number(log_reader::read_in(log));
-    if number == 0 {
-        return true;
-    }
-    number == 13
+    matches!(
+        log_reader::read_in(log),
+        Ok(_) | Err(LogRefusal::CutShort(_))
+    )
 }
 
 // How many entries of a section are shown.
@@ -31,9 +30,9 @@ pub(crate) fn count(log: &[u8], passed: u32) -> usize
 }
 
 // Entry i of a section.
-pub(crate) fn entry(log: &[u8], passed: u32, i: usize) -> Entry
+pub(crate) fn entry(log: &[u8], passed: u32, i: usize) -> Option<Entry>
     requires { (passed < 4) × (i < count_in (shown log.now) passed) }
-    ensures { result ≡ entry_given (shown log.now) passed i }
+    ensures { result ≡ Some (entry_given (shown log.now) passed i) }
 {
     log_cut::entry(log, passed, i)
 }
@@ -43,8 +42,7 @@ fn edition_at(log: &[u8], i: usize) -> u32
     requires { i < length (shown log.now).editions }
     ensures { result ≡ get_or (shown log.now).editions i 0 }
 {
-    let found = entry(log, 0, i);
-    if let Entry::Edition(e) = found {
+    if let Some(Entry::Edition(e)) = entry(log, 0, i) {
         e as u32
     } else {
         0
@@ -55,13 +53,10 @@ fn edition_at(log: &[u8], i: usize) -> u32
 fn seen(log: &[u8], edition: u32) -> bool
     ensures { result ≡ among (shown log.now).editions edition }
 {
-    let n = count(log, 0);
-    let mut i = 0;
-    while i < n {
+    for i in 0..count(log, 0) {
         if edition_at(log, i) == edition {
             return true;
         }
-        i += 1;
     }
     false
 }
@@ -72,13 +67,11 @@ pub fn known_editions(log: &[u8]) -> u32
 {
     let mut mask: u32 = 0;
     let mut bit: u32 = 1;
-    let mut e: u32 = 0;
-    while e < edition::EDITIONS {
+    for e in 0..edition::EDITIONS {
         if seen(log, e) {
             mask += bit;
         }
         bit *= 2;
-        e += 1;
     }
     mask
 }

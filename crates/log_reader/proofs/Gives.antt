@@ -5,19 +5,17 @@ use mathlib.Core.List.{List}
 use Prim.Native.Nat.{ℕ, ◌≤◌, ◌<◌}
 use native.Mathlib.Nat.{zero-add}
 use native.Mathlib.Omega.{arith}
+use Rattle.std.specs.Prelude.{Some, None, Ok}
 use lib.ListN.{get_or}
 use Rattle.log_section.specs.Section.{sizes, end_of, rest_after, count_after}
 use Rattle.log_section.specs.Log.{entries_of}
 use Rattle.trap_log.specs.Answer.{read_of}
 use Rattle.log_section.specs.Look.{look_at, start_after, entry_given}
-use Rattle.trap_log.specs.declared.answer.Read.TheVariants.{Accepted}
-use Rattle.log_section.specs.declared.section.Section.{Section}
 use Rattle.log_section.specs.declared.entry.Place.{Place}
-use Rattle.log_section.specs.declared.entry.Entry.{Entry}
 use Rattle.trap_log.proofs.Given.{moved_to, entry_found, entry_past}
 use Rattle.log_reader.specs.Reader.{place_after, look_in}
 
-module _ (s : List ℕ) {gone : ℕ} (e : read_of s ≡ Accepted gone) where
+module _ (s : List ℕ) {gone : ℕ} (e : read_of s ≡ Ok gone) where
   pub reader_stands : (n : ℕ) → n ≤ 4 → place_after s n ≡ record { passed = n; at = start_after s n }
   reader_stands n h = moved_to s e n 0 (omega arith) ∙ ap (λ (k : ℕ). record { passed = k; at = start_after s k }) (zero-add n)
 
@@ -26,12 +24,14 @@ module _ (s : List ℕ) {gone : ℕ} (e : read_of s ≡ Accepted gone) where
 
   pub reader_gives : (n i : ℕ) → n < 4 → i < count_after s n
       → look_in s n i ≡ record {
-        section = Section.Whole (count_after s n) (end_of (get_or sizes n 0) (rest_after s n));
-        entry = entry_given
-            (entries_of s) n i;
+        section = Some record { count = count_after s n; end = end_of (get_or sizes n 0) (rest_after s n) };
+        entry = Some (entry_given (entries_of s) n i);
       }
   reader_gives n i h k = stands_there n i h ∙ entry_found s e n i h k
 
   pub reader_has_none : (n i : ℕ) → n < 4 → count_after s n ≤ i
-      → look_in s n i ≡ record { section = Section.Whole (count_after s n) (end_of (get_or sizes n 0) (rest_after s n)); entry = Entry.None }
+      → look_in s n i ≡ record {
+        section = Some record { count = count_after s n; end = end_of (get_or sizes n 0) (rest_after s n) };
+        entry = None;
+      }
   reader_has_none n i h k = stands_there n i h ∙ entry_past s e n i h k

@@ -8,7 +8,7 @@ ghost use Rattle.trap_log.specs.Answer.{Reading};
 ghost use Rattle.log_section.specs.Look.{look_at};
 ghost use Rattle.log_reader.specs.Reader.{place_from, look_in};
 
-use trap_log::{Look, Read};
+use trap_log::{LogRefusal, Look};
 
 #[derive(Clone, Copy)]
 pub struct LogReader<'a> {
@@ -30,7 +30,7 @@ pub fn open<'a>(log: &'a [u8]) -> LogReader<'a>
 }
 
 // How the log is read, whatever the reader's place in it.
-pub fn read<'a>(r: LogReader<'a>) -> Read
+pub fn read<'a>(r: LogReader<'a>) -> Result<usize, LogRefusal>
     ensures { Reading r.entry.log.now result }
 {
     trap_log::read(r.log)
@@ -56,7 +56,7 @@ pub fn look<'a>(r: LogReader<'a>, i: usize) -> Look
 }
 
 // For a caller that has the plain slice: how the log is read.
-pub fn read_in(log: &[u8]) -> Read
+pub fn read_in(log: &[u8]) -> Result<usize, LogRefusal>
     ensures { Reading log.now result }
 {
     read(open(log))

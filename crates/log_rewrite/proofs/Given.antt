@@ -8,6 +8,7 @@ use native.Mathlib.Nat.{add-zero, sub-zero}
 use native.Mathlib.Omega.{arith}
 use borrow.Author.Count.{below_more}
 use lib.Dec.{lit<}
+use Rattle.std.specs.Prelude.{Result, Ok, Err, Option, Some}
 use lib.ListN.{length, take, drop, get_or, set, length-drop}
 use lib.Seq.{drop-drop, ext_get_or, get_or-take, get_or-set_same, get_or-set_other, length-take-le}
 use Rattle.log_section.specs.Number.{number}
@@ -16,8 +17,8 @@ use Rattle.log_section.specs.Log.{Address, nowhere, byte_in, bytes_word as word_
 use Rattle.log_section.specs.Log.{body_after}
 use Rattle.trap_log.specs.Answer.{number_of, read_of}
 use Rattle.log_section.specs.Look.{section_at, start_after}
-use Rattle.trap_log.specs.declared.answer.Read.{Read}
-use Rattle.trap_log.specs.declared.answer.Read.TheVariants.{Accepted, TooLong, CutShort, LeftOver, Unequal, WideDomain}
+use Rattle.trap_log.specs.declared.answer.LogRefusal.{LogRefusal}
+use Rattle.trap_log.specs.declared.answer.LogRefusal.TheVariants.{TooLong, CutShort, LeftOver, Unequal, WideDomain}
 use Rattle.log_section.specs.declared.entry.Place.{Place}
 use Rattle.log_section.specs.declared.entry.Entry.{Entry}
 use Rattle.log_section.specs.declared.entry.Look.{Look}
@@ -32,13 +33,13 @@ use Rattle.log_writer.proofs.Again.{fars_length, hpfars_length}
 use Rattle.log_rewrite.specs.Rewrite.{Taken}
 use Rattle.log_rewrite.specs.Inner.{count_in, entry_word, half_in}
 
-pub accepted : (a : Read) → number_of a ≡ 0 → (gone : ℕ) × (a ≡ Accepted gone)
-accepted (Accepted gone) e = (gone, refl)
-accepted TooLong e = absurd (omega arith)
-accepted (CutShort section) e = absurd (omega arith)
-accepted LeftOver e = absurd (omega arith)
-accepted Unequal e = absurd (omega arith)
-accepted WideDomain e = absurd (omega arith)
+pub accepted : (a : Result ℕ LogRefusal) → number_of a ≡ 0 → (gone : ℕ) × (a ≡ Ok gone)
+accepted (Ok gone) e = (gone, refl)
+accepted (Err TooLong) e = absurd (omega arith)
+accepted (Err (CutShort section)) e = absurd (omega arith)
+accepted (Err LeftOver) e = absurd (omega arith)
+accepted (Err Unequal) e = absurd (omega arith)
+accepted (Err WideDomain) e = absurd (omega arith)
 
 -- bytes that are read one by one are the bytes
 bytes_read : (n : ℕ) (s : List ℕ) → n ≤ length s → entries_in 1 byte_in n s ≡ take n s
@@ -67,7 +68,7 @@ hpfars_at (a ∷ l) zero = refl
 hpfars_at (a ∷ l) (suc i) = hpfars_at l i
 
 module _ (s : List ℕ) (t : Taken s) where
-  pub taken : read_of s ≡ Accepted (accepted (read_of s) t).0
+  pub taken : read_of s ≡ Ok (accepted (read_of s) t).0
   taken = (accepted (read_of s) t).1
 
   pub stands : (n : ℕ) → n < 4 → place_after s n ≡ record { passed = n; at = start_after s n }
@@ -102,7 +103,7 @@ module _ (s : List ℕ) (t : Taken s) where
   few_injections = omega (arith, (accepts s taken).short, ends 3 (lit< tt))
 
   -- a buffer that holds a number of each entry of a section begins with the numbers of the section
-  module _ (n : ℕ) (h : n < 4) (number_in : Entry → ℕ) (words : List ℕ) (all : length words ≡ count_after s n)
+  module _ (n : ℕ) (h : n < 4) (number_in : Option Entry → ℕ) (words : List ℕ) (all : length words ≡ count_after s n)
       (same : (i : ℕ) → i < count_after s n → number_in (look_in s n i).entry ≡ get_or words i 0) where
     words_given : (out : List ℕ) → count_after s n ≤ length out
         → ((i : ℕ) → i < length out → get_or out i 0 ≡ number_in (look_in s n i).entry) → take (count_after s n) out ≡ words
@@ -146,7 +147,7 @@ module _ (s : List ℕ) (t : Taken s) where
         out (omega (arith, agree)) holds
 
   -- an injection's own byte and its domain make its number again
-  halves : (n : ℕ) → half_in (Entry.Injection (injection_byte n) (domain_of n)) ≡ n
+  halves : (n : ℕ) → half_in (Some (Entry.Injection (injection_byte n) (domain_of n))) ≡ n
   halves n = omega arith
 
   pub injections_given : (out : List ℕ) → count_after s 3 ≤ length out

@@ -6,24 +6,16 @@ ghost use Rattle.log_reader.specs.Reader.{look_in};
 ghost use Rattle.log_rewrite.specs.Rewrite.{Taken};
 ghost use Rattle.log_rewrite.specs.Inner.{count_in, entry_word, half_in};
 
-use trap_log::{Entry, Section};
-
-fn count_in(section: Section) -> usize
-    ensures { result ≡ count_in section }
-{
-    match section {
-        Section::Whole { count, end: _ } => count,
-        Section::None => 0,
-    }
-}
+use trap_log::Entry;
 
 // How many entries a section has.
 pub fn count(log: &[u8], passed: u32) -> usize
     ensures { result ≡ count_in (look_in log.now passed 0).section }
 {
-    let found = log_reader::look_in(log, passed, 0);
-    let section = found.section;
-    count_in(section)
+    match log_reader::look_in(log, passed, 0).section {
+        Some(section) => section.count,
+        None => 0,
+    }
 }
 
 // The entries of a section that are one byte each: they are the log's own bytes.
@@ -38,68 +30,41 @@ pub fn bytes(log: &[u8], passed: u32) -> &[u8]
 }
 
 // A word of an entry: a syndrome, and of an address FAR first and HPFAR second.
-fn word_in(entry: Entry, second: bool) -> u64
+fn word_in(entry: Option<Entry>, second: bool) -> u64
     ensures { result ≡ entry_word entry second }
 {
     match entry {
-        Entry::Syndrome(esr) => esr.0,
-        Entry::Address { far, hpfar } => { if second { hpfar.0 } else { far.0 } }
-        Entry::Edition(_) => 0,
-        Entry::Injection {
-            injection: _,
-            domain: _,
-        } => 0,
-        Entry::None => 0,
+        Some(Entry::Syndrome(esr)) => esr.0,
+        Some(Entry::Address { far, hpfar }) => { if second { hpfar.0 } else { far.0 } }
+        _ => 0,
     }
-}
-
-fn word_at(log: &[u8], passed: u32, second: bool, i: usize) -> u64
-    ensures { result ≡ entry_word (look_in log.now passed i).entry second }
-{
-    let found = log_reader::look_in(log, passed, i);
-    let entry = found.entry;
-    word_in(entry, second)
 }
 
 // Fills a buffer with a word of each entry of a section.
 pub fn words(log: &[u8], passed: u32, second: bool, out: &mut [u64])
     ensures { (i : ℕ) → i < length out.new → get_or out.new i 0 ≡ entry_word (look_in log.now passed i).entry second }
 {
-    let mut i = 0;
-    while i < out.len() {
-        out[i] = word_at(log, passed, second, i);
-        i += 1;
+    for (i, word) in out.iter_mut().enumerate() {
+        *word = word_in(log_reader::look_in(log, passed, i).entry, second);
     }
 }
 
 // An injection as the number of its two bytes: its own, and above it its domain.
-fn half_in(entry: Entry) -> u16
+fn half_in(entry: Option<Entry>) -> u16
     ensures { result ≡ half_in entry }
 {
     match entry {
-        Entry::Injection { injection, domain } => injection as u16 + 256 * (domain as u16),
-        Entry::Edition(_) => 0,
-        Entry::Syndrome(_) => 0,
-        Entry::Address { far: _, hpfar: _ } => 0,
-        Entry::None => 0,
+        Some(Entry::Injection { injection, domain }) => injection as u16 + 256 * (domain as u16),
+        _ => 0,
     }
 }
 
-fn half_at(log: &[u8], i: usize) -> u16
-    ensures { result ≡ half_in (look_in log.now 3 i).entry }
-{
-    let found = log_reader::look_in(log, 3, i);
-    let entry = found.entry;
-    half_in(entry)
-}
-
 // Fills a buffer with the injections.
+// Kept beside `words`: one function for both would take a closure, and the contract of each would go through it: no plainer.
 pub fn injections(log: &[u8], out: &mut [u16])
     ensures { (i : ℕ) → i < length out.new → get_or out.new i 0 ≡ half_in (look_in log.now 3 i).entry }
 {
-    let mut i = 0;
-    while i < out.len() {
-        out[i] = half_at(log, i);
-        i += 1;
+    for (i, half) in out.iter_mut().enumerate() {
+        *half = half_in(log_reader::look_in(log, 3, i).entry);
     }
 }

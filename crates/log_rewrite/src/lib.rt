@@ -6,19 +6,36 @@ ghost use Rattle.log_section.specs.Log.{entries_of};
 ghost use Rattle.log_writer.specs.Lists.{lists_of};
 ghost use Rattle.log_writer.specs.Write.{Writing};
 ghost use Rattle.log_rewrite.specs.Rewrite.{Taken, Rewriting};
+ghost use Rattle.log_rewrite.specs.declared.RewriteRefusal.TheVariants.{Unread, Unwritten};
 
 mod entries;
 mod labelled;
 
 pub use labelled::write_raw;
-use log_writer::Written;
-use trap_log::Read;
+use log_writer::WriteRefusal;
+use trap_log::LogRefusal;
 
-// The reader's refusal, or what the writer answers.
-#[derive(Clone, Copy)]
-pub enum Rewritten {
-    Unread(Read),
-    Written(Written),
+// The reader's refusal, or the writer's.
+#[derive(Clone, Copy, PartialEq, Eq)]
+pub enum RewriteRefusal {
+    Unread(LogRefusal),
+    Unwritten(WriteRefusal),
+}
+
+impl From<LogRefusal> for RewriteRefusal {
+    ghost from_gives = { λ r e. e ≡ Unread r };
+
+    fn from(refusal: LogRefusal) -> RewriteRefusal {
+        RewriteRefusal::Unread(refusal)
+    }
+}
+
+impl From<WriteRefusal> for RewriteRefusal {
+    ghost from_gives = { λ r e. e ≡ Unwritten r };
+
+    fn from(refusal: WriteRefusal) -> RewriteRefusal {
+        RewriteRefusal::Unwritten(refusal)
+    }
 }
 
 // No accepted log has more traps: a syndrome and its address are 24 bytes.
@@ -28,7 +45,7 @@ const TRAPS: usize = 2730;
 const INJECTIONS: usize = 32760;
 
 // Writes the entries of an accepted log.
-fn written(log: &[u8], out: &mut [u8]) -> Written
+fn written(log: &[u8], out: &mut [u8]) -> Result<usize, WriteRefusal>
     requires { Taken log.now }
     ensures { Writing (lists_of (entries_of log.now)) out.old out.new result }
 {
@@ -55,12 +72,9 @@ fn written(log: &[u8], out: &mut [u8]) -> Written
 
 // Reads a log and writes its entries into a buffer. The same bytes stand at the buffer's front where the log is accepted and has room
 // there; else the buffer is as it was.
-pub fn rewrite(log: &[u8], out: &mut [u8]) -> Rewritten
+pub fn rewrite(log: &[u8], out: &mut [u8]) -> Result<usize, RewriteRefusal>
     ensures { Rewriting log.now out.old out.new result }
 {
-    let answer = trap_log::read(log);
-    if trap_log::number(answer) != 0 {
-        return Rewritten::Unread(answer);
-    }
-    Rewritten::Written(written(log, out))
+    trap_log::read(log)?;
+    Ok(written(log, out)?)
 }

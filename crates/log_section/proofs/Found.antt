@@ -1,9 +1,10 @@
 -- The section that some bytes begin with.
 -- Assumes nothing.
-use mathlib.Core.Path.{◌≡◌, refl, sym, ap, ◌∙◌}
-use mathlib.Core.Bool.{Bool, true, false, cond, not, ◌&&◌}
+use mathlib.Core.Path.{◌≡◌, refl, sym, ap}
+use mathlib.Core.Bool.{Bool, true, false, cond, ◌&&◌}
 use mathlib.Core.List.{List}
-use Prim.Native.Nat.{ℕ, ◌+◌, ◌-◌, ◌*◌, ◌≤◌, ◌<◌}
+use Rattle.std.specs.Prelude.{Some, None}
+use Prim.Native.Nat.{ℕ, ◌+◌, ◌-◌, ◌≤◌, ◌<◌}
 use native.Mathlib.Nat.{le-mul_of_pos_right}
 use native.Mathlib.Omega.{arith}
 use lib.Dec.{leb}
@@ -16,14 +17,6 @@ use Rattle.log_section.specs.declared.section.Section.{Section}
 pub both_true : (a b : Bool) → (a && b) ≡ true → (a ≡ true) × (b ≡ true)
 both_true true b e = (refl, e)
 both_true false b e = let z : ◌≡◌ {A = ℕ} 0 1 = cc in absurd (omega arith)
-
-pub not_true : (b : Bool) → not b ≡ true → b ≡ false
-not_true true e = sym e
-not_true false e = refl
-
-pub not_false : (b : Bool) → not b ≡ false → b ≡ true
-not_false true e = refl
-not_false false e = sym e
 
 -- a whole section has its count, and ends within the bytes
 pub record Whole (size : ℕ) (s : List ℕ) : Type 0 where
@@ -41,32 +34,28 @@ pub record Found (size : ℕ) (s : List ℕ) (count end : ℕ) : Type 0 where
   pub counts : count ≡ count_of s
   pub ends : end ≡ end_of size s
 
-found_by : (t : Bool) (c e : ℕ) {count end : ℕ} → cond t (Section.Whole c e) Section.None ≡ Section.Whole count end
-    → (t ≡ true) × (count ≡ c) × (end ≡ e)
-found_by true c e p = (refl, cc, cc)
-found_by false c e p = let z : ◌≡◌ {A = ℕ} 0 1 = cc in absurd (omega arith)
+found_by : (t : Bool) (y : Section) {x : Section} → cond t (Some y) None ≡ Some x → (t ≡ true) × (x ≡ y)
+found_by true y p = (refl, cc)
+found_by false y p = cc
 
-pub found : (size : ℕ) (s : List ℕ) {count end : ℕ} → section_of size s ≡ Section.Whole count end → Found size s count end
+pub found : (size : ℕ) (s : List ℕ) {x : Section} → section_of size s ≡ Some x → Found size s x.count x.end
 found size s p =
-    let f = found_by (whole_of size s) (count_of s) (end_of size s) p in
-    record { test = f.0; counts = f.1; ends = f.2 }
+    let f = found_by (whole_of size s) (record { count = count_of s; end = end_of size s }) p in
+    record { test = f.0; counts = ap (λ (x : Section). x.count) f.1; ends = ap (λ (x : Section). x.end) f.1 }
 
-none_by : (t : Bool) (c e : ℕ) → cond t (Section.Whole c e) Section.None ≡ Section.None → t ≡ false
-none_by true c e p = let z : ◌≡◌ {A = ℕ} 0 1 = cc in absurd (omega arith)
-none_by false c e p = refl
+none_by : (t : Bool) (y : Section) → cond t (Some y) None ≡ None → t ≡ false
+none_by true y p = cc
+none_by false y p = refl
 
-pub not_found : (size : ℕ) (s : List ℕ) → section_of size s ≡ Section.None → whole_of size s ≡ false
-not_found size s p = none_by (whole_of size s) (count_of s) (end_of size s) p
+pub not_found : (size : ℕ) (s : List ℕ) → section_of size s ≡ None → whole_of size s ≡ false
+not_found size s p = none_by (whole_of size s) (record { count = count_of s; end = end_of size s }) p
 
--- the three ways to an answer, by the tests on the bytes
-pub count_cut : (size : ℕ) (s : List ℕ) → length s < 4 → Section.None ≡ section_of size s
-count_cut size s h = sym (simp (lt-leb 4 (length s) h))
-
-pub entries_cut : (size : ℕ) (s : List ℕ) → 4 ≤ length s → length s < end_of size s → Section.None ≡ section_of size s
+-- the ways to an answer, by the tests on the bytes
+pub entries_cut : (size : ℕ) (s : List ℕ) → 4 ≤ length s → length s < end_of size s → None ≡ section_of size s
 entries_cut size s h k = sym (simp (le-leb 4 (length s) h, lt-leb (end_of size s) (length s) k))
 
 pub is_found : (size : ℕ) (s : List ℕ) (count end : ℕ) → 4 ≤ length s → count ≡ count_of s → end ≡ end_of size s → end_of size s ≤ length s
-    → Section.Whole count end ≡ section_of size s
+    → Some record { count = count; end = end } ≡ section_of size s
 is_found size s count end h p q k = rw (p, q) (sym (simp (le-leb 4 (length s) h, le-leb (end_of size s) (length s) k)))
 
 -- a section that was found: the rest of the bytes is what is handed on, and both together are no more than there was

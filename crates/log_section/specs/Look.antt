@@ -1,6 +1,6 @@
 -- Access by entry: a place in a log, the section that stands there, and its entries. A place is how many sections and how many bytes lie
 -- before it.
-use Rattle.std.specs.Prelude.{ℕ, zero, suc, ◌+◌, ◌*◌, cond, ◌&&◌, List, leb, ltb, length, drop, get_or}
+use Rattle.std.specs.Prelude.{ℕ, zero, suc, ◌+◌, ◌*◌, cond, ◌&&◌, Option, Some, None, List, leb, ltb, length, drop, get_or}
 use Rattle.log_section.specs.Section.{sizes, end_of, section_of, rest_after}
 use Rattle.log_section.specs.Log.{Entries, byte_in, bytes_word, injection_in, injection_byte, domain_of, nowhere}
 use Rattle.log_section.specs.declared.section.Section.{Section}
@@ -9,13 +9,13 @@ use Rattle.log_section.specs.declared.entry.Entry.{Entry}
 use Rattle.log_section.specs.declared.entry.Look.{Look}
 
 -- the section that stands at a place, where it is one of the four and whole
-abbrev pub section_at : List ℕ → ℕ → ℕ → Section
-section_at s passed at = cond (ltb passed 4 && leb at (length s)) (section_of (get_or sizes passed 0) (drop at s)) Section.None
+abbrev pub section_at : List ℕ → ℕ → ℕ → Option Section
+section_at s passed at = cond (ltb passed 4 && leb at (length s)) (section_of (get_or sizes passed 0) (drop at s)) None
 
 -- a place moves past a whole section, and stays where there is none
-abbrev pub moved_past : Section → Place → Place
-moved_past (Section.Whole count end) p = record { passed = p.passed + 1; at = p.at + end }
-moved_past Section.None p = p
+abbrev pub moved_past : Option Section → Place → Place
+moved_past (Some section) p = record { passed = p.passed + 1; at = p.at + section.end }
+moved_past None p = p
 
 abbrev pub skip_from : List ℕ → ℕ → Place → Place
 skip_from s zero p = p
@@ -29,14 +29,14 @@ entry_in (suc (suc zero)) s = Entry.Address (record { 0 = bytes_word s }) (recor
 entry_in (suc (suc (suc n))) s = Entry.Injection (injection_byte (injection_in s)) (domain_of (injection_in s))
 
 -- the entry whose bytes stand at a place
-abbrev pub entry_at : List ℕ → ℕ → ℕ → Entry
-entry_at s passed at = cond (ltb passed 4 && leb (at + get_or sizes passed 0) (length s)) (entry_in passed (drop at s)) Entry.None
+abbrev pub entry_at : List ℕ → ℕ → ℕ → Option Entry
+entry_at s passed at = cond (ltb passed 4 && leb (at + get_or sizes passed 0) (length s)) (Some (entry_in passed (drop at s))) None
 
 -- entry i of a section, or that there is none
-abbrev pub entry_of : List ℕ → ℕ → ℕ → ℕ → Section → Entry
-entry_of s passed at i (Section.Whole count end) =
-    cond (ltb i count) (entry_in passed (drop (at + 4 + i * get_or sizes passed 0) s)) Entry.None
-entry_of s passed at i Section.None = Entry.None
+abbrev pub entry_of : List ℕ → ℕ → ℕ → ℕ → Option Section → Option Entry
+entry_of s passed at i (Some section) =
+    cond (ltb i section.count) (Some (entry_in passed (drop (at + 4 + i * get_or sizes passed 0) s))) None
+entry_of s passed at i None = None
 
 -- both together, at a place
 abbrev pub look_at : List ℕ → ℕ → ℕ → ℕ → Look

@@ -1,6 +1,6 @@
 -- Request C-14, "Sections in a fixed order, each after its count of entries": the section that some bytes begin with, and the rest of the
 -- log that is handed on after it.
-use Rattle.std.specs.Prelude.{ℕ, zero, suc, ◌+◌, ◌*◌, Bool, cond, ◌&&◌, List, [], ◌∷◌, leb, length, take, drop, get_or}
+use Rattle.std.specs.Prelude.{ℕ, zero, suc, ◌+◌, ◌*◌, Bool, cond, ◌&&◌, Option, Some, None, List, [], ◌∷◌, leb, length, take, drop, get_or}
 use Rattle.log_section.specs.Number.{number}
 use Rattle.log_section.specs.declared.section.Section.{Section}
 
@@ -28,8 +28,8 @@ whole_of size s = leb 4 (length s) && leb (end_of size s) (length s)
 abbrev pub after_of : ℕ → List ℕ → List ℕ
 after_of size s = drop (end_of size s) s
 
-abbrev pub section_of : ℕ → List ℕ → Section
-section_of size s = cond (whole_of size s) (Section.Whole (count_of s) (end_of size s)) Section.None
+abbrev pub section_of : ℕ → List ℕ → Option Section
+section_of size s = cond (whole_of size s) (Some record { count = count_of s; end = end_of size s }) None
 
 -- of a log, after its first n sections: what is left, the count that stands there, and whether section n + 1 is whole
 abbrev pub rest_after : List ℕ → ℕ → List ℕ

@@ -10,6 +10,7 @@ use super::number::eight;
 use super::section::{ADDRESS, EDITION, INJECTION, SYNDROME, Section, front};
 use registers::{Esr, Far, Hpfar};
 
+// Kept: a section is named by a number, since the C interface (`knucklepin_log_look`) may ask for any, and past the fourth there is none.
 #[derive(Clone, Copy)]
 pub struct Place {
     pub passed: u32,
@@ -23,14 +24,13 @@ pub enum Entry {
     Syndrome(Esr),
     Address { far: Far, hpfar: Hpfar },
     Injection { injection: u8, domain: u8 },
-    None,
 }
 
 // A section, and one entry of it.
 #[derive(Clone, Copy)]
 pub struct Look {
-    pub section: Section,
-    pub entry: Entry,
+    pub section: Option<Section>,
+    pub entry: Option<Entry>,
 }
 
 // The size of an entry, by the number of sections before its own.
@@ -46,42 +46,30 @@ pub fn size_of(passed: u32) -> u32
     }
 }
 
-fn section_at(log: &[u8], passed: u32, at: usize) -> Section
+fn section_at(log: &[u8], passed: u32, at: usize) -> Option<Section>
     ensures { result ≡ section_at log.now passed at }
 {
     if 4 <= passed {
-        return Section::None;
+        return None;
     }
-    if log.len() < at {
-        return Section::None;
-    }
-    front(&log[at..], size_of(passed))
+    front(log.get(at..)?, size_of(passed))
 }
 
 // Moves past n sections, or as many as are whole.
 pub fn skip(log: &[u8], passed: u32, at: usize, n: u32) -> Place
     ensures { result ≡ skip_from log.now n record { passed = passed; at = at } }
 {
-    let mut k = passed;
-    let mut place = at;
-    let mut left = n;
-    while 0 < left {
-        match section_at(log, k, place) {
-            Section::Whole { count: _, end } => {
-                k += 1;
-                place += end;
-            }
-            Section::None => return Place {
-                passed: k,
-                at: place,
-            },
-        }
-        left -= 1;
+    let mut place = Place { passed, at };
+    for _ in 0..n {
+        let Some(section) = section_at(log, place.passed, place.at) else {
+            return place;
+        };
+        place = Place {
+            passed: place.passed + 1,
+            at: place.at + section.end,
+        };
     }
-    Place {
-        passed: k,
-        at: place,
-    }
+    place
 }
 
 fn entry_in(log: &[u8], passed: u32, at: usize) -> Entry
@@ -103,42 +91,36 @@ fn entry_in(log: &[u8], passed: u32, at: usize) -> Entry
 }
 
 // The entry at a place, whether or not its section is whole, and none where the log ends before it does.
-pub fn entry_at(log: &[u8], passed: u32, at: usize) -> Entry
+pub fn entry_at(log: &[u8], passed: u32, at: usize) -> Option<Entry>
     ensures { result ≡ entry_at log.now passed at }
 {
-    let end = log.len();
     if 4 <= passed {
-        return Entry::None;
+        return None;
     }
-    if end < at {
-        return Entry::None;
+    let rest = log.get(at..)?;
+    if rest.len() < (size_of(passed) as usize) {
+        return None;
     }
-    if end - at < (size_of(passed) as usize) {
-        return Entry::None;
-    }
-    entry_in(log, passed, at)
+    Some(entry_in(log, passed, at))
 }
 
 // The section at a place, and its entry i.
 pub fn look_at(log: &[u8], passed: u32, at: usize, i: usize) -> Look
     ensures { result ≡ look_at log.now passed at i }
 {
-    match section_at(log, passed, at) {
-        Section::Whole { count, end } => {
-            let section = Section::Whole { count, end };
-            if i < count {
-                let from = at + 4 + i * (size_of(passed) as usize);
-                let entry = entry_in(log, passed, from);
-                return Look { section, entry };
-            }
-            Look {
-                section,
-                entry: Entry::None,
-            }
-        }
-        Section::None => Look {
-            section: Section::None,
-            entry: Entry::None,
-        },
+    let Some(section) = section_at(log, passed, at) else {
+        return Look {
+            section: None,
+            entry: None,
+        };
+    };
+    let mut entry = None;
+    if i < section.count {
+        let from = at + 4 + i * (size_of(passed) as usize);
+        entry = Some(entry_in(log, passed, from));
+    }
+    Look {
+        section: Some(section),
+        entry,
     }
 }

@@ -15,26 +15,25 @@ pub const INJECTION: u32 = 2;
 
 // A whole section has its count of entries, and its end is where the next one begins.
 #[derive(Clone, Copy)]
-pub enum Section {
-    Whole { count: usize, end: usize },
-    // The count is cut short or passes the end.
-    None,
+pub struct Section {
+    pub count: usize,
+    pub end: usize,
 }
 
-// The product is taken in 64 bits: no 32-bit count and size can wrap it.
-pub fn front(rest: &[u8], size: u32) -> Section
+// None where the count is cut short or passes the end. The product is taken in 64 bits: no 32-bit count and size can wrap it.
+pub fn front(rest: &[u8], size: u32) -> Option<Section>
     ensures { result ≡ section_of size rest.now }
 {
     if rest.len() < 4 {
-        return Section::None;
+        return None;
     }
     let count = four(rest, 0);
     let end = 4 + count * (size as u64);
     if (rest.len() as u64) < end {
-        return Section::None;
+        return None;
     }
-    Section::Whole {
+    Some(Section {
         count: count as usize,
         end: end as usize,
-    }
+    })
 }

@@ -10,8 +10,8 @@ use Rattle.registers.specs.declared.Far.{Far}
 use Rattle.registers.specs.declared.Hpfar.{Hpfar}
 use Rattle.edition.specs.Feature.{is_edition}
 use Rattle.trap_log.specs.Answer.{number_of, section_in}
-use Rattle.trap_log.specs.declared.answer.Read.{Read}
-use Rattle.trap_log.specs.declared.answer.Read.TheVariants.{Accepted, TooLong, CutShort, LeftOver, Unequal, WideDomain}
+use Rattle.std.specs.Prelude.{Result, Ok, Err}
+use Rattle.trap_log.specs.declared.answer.LogRefusal.{LogRefusal}
 use Rattle.names.specs.Name.{meaning_of}
 use Rattle.names.specs.Table.{sources, values_at}
 use Rattle.names.specs.Value.{injections}
@@ -39,19 +39,15 @@ edition_field_length n = go (is_edition n)
     go true = omega (arith, hex_field_length n)
     go false = let d = decimal_field_length n in rw (length-append (decimal_field n) (ascii " unknown")) (omega arith)
 
-refused_length : (a : Read) → length (refused_text a) ≤ 128
-refused_length a =
-    let n = decimal_length (number_of a) in
-    let s = decimal_length (section_in a) in
+refused_length : (refusal : LogRefusal) → length (refused_text refusal) ≤ 128
+refused_length refusal =
+    let n = decimal_length (number_of (Err refusal)) in
+    let s = decimal_length (section_in (Err refusal)) in
     simp length-append (omega arith)
 
-pub read_length : (a : Read) → length (read_text a) ≤ 128
-read_length (Accepted gone) = let n = decimal_length gone in simp length-append (omega arith)
-read_length TooLong = refused_length TooLong
-read_length (CutShort section) = refused_length (CutShort section)
-read_length LeftOver = refused_length LeftOver
-read_length Unequal = refused_length Unequal
-read_length WideDomain = refused_length WideDomain
+pub read_length : (a : Result ℕ LogRefusal) → length (read_text a) ≤ 128
+read_length (Ok gone) = let n = decimal_length gone in simp length-append (omega arith)
+read_length (Err refusal) = refused_length refusal
 
 pub edition_length : (edition : ℕ) → length (edition_text edition) ≤ 128
 edition_length edition = let n = edition_field_length edition in simp length-append (omega arith)

@@ -1,11 +1,10 @@
 -- Requests C-14 and C-21: a log as lines of text. The first line tells how the log was read.
-use Rattle.std.specs.Prelude.{ℕ, cond, List, [], ◌++◌}
+use Rattle.std.specs.Prelude.{ℕ, cond, Option, Some, None, Result, Ok, Err, List, [], ◌++◌}
 use Rattle.registers.specs.declared.Far.{Far}
 use Rattle.registers.specs.declared.Hpfar.{Hpfar}
 use Rattle.edition.specs.Feature.{is_edition}
 use Rattle.trap_log.specs.Answer.{number_of, section_in}
-use Rattle.trap_log.specs.declared.answer.Read.{Read}
-use Rattle.trap_log.specs.declared.answer.Read.TheVariants.{Accepted, TooLong, CutShort, LeftOver, Unequal, WideDomain}
+use Rattle.trap_log.specs.declared.answer.LogRefusal.{LogRefusal}
 use Rattle.log_section.specs.declared.entry.Entry.{Entry}
 use Rattle.names.specs.Name.{meaning_of}
 use Rattle.names.specs.Value.{injections}
@@ -25,17 +24,14 @@ abbrev pub edition_field : ℕ → List ℕ
 edition_field n = cond (is_edition n) (hex_field n) (decimal_field n ++ ascii " unknown")
 
 -- a refusal of the log: its number and its section
-abbrev pub refused_text : Read → List ℕ
-refused_text a = ascii "refused" ++ decimal_field (number_of a) ++ decimal_field (section_in a) ++ ascii "\n"
+abbrev pub refused_text : LogRefusal → List ℕ
+refused_text refusal =
+    ascii "refused" ++ decimal_field (number_of (Err refusal)) ++ decimal_field (section_in (Err refusal)) ++ ascii "\n"
 
 -- how many counts and entries were gone through, or the refusal
-abbrev pub read_text : Read → List ℕ
-read_text (Accepted gone) = ascii "taken" ++ decimal_field gone ++ ascii "\n"
-read_text TooLong = refused_text TooLong
-read_text (CutShort section) = refused_text (CutShort section)
-read_text LeftOver = refused_text LeftOver
-read_text Unequal = refused_text Unequal
-read_text WideDomain = refused_text WideDomain
+abbrev pub read_text : Result ℕ LogRefusal → List ℕ
+read_text (Ok gone) = ascii "taken" ++ decimal_field gone ++ ascii "\n"
+read_text (Err refusal) = refused_text refusal
 
 -- the entries
 abbrev pub edition_text : ℕ → List ℕ
@@ -47,12 +43,12 @@ injection_text injection domain =
     ascii "injection" ++ decimal_field injection ++ ascii " domain" ++ decimal_field domain ++ meaning_of injections injection ++ ascii "\n"
 
 -- an entry that has a line of its own; a trap's registers stand in two entries
-abbrev pub entry_text : Entry → List ℕ
-entry_text (Entry.Edition edition) = edition_text edition
-entry_text (Entry.Syndrome esr) = []
-entry_text (Entry.Address far hpfar) = []
-entry_text (Entry.Injection injection domain) = injection_text injection domain
-entry_text Entry.None = []
+abbrev pub entry_text : Option Entry → List ℕ
+entry_text (Some (Entry.Edition edition)) = edition_text edition
+entry_text (Some (Entry.Syndrome esr)) = []
+entry_text (Some (Entry.Address far hpfar)) = []
+entry_text (Some (Entry.Injection injection domain)) = injection_text injection domain
+entry_text None = []
 
 -- the three registers of a trap
 abbrev pub words_text : Esr → Far → Hpfar → List ℕ

@@ -1,51 +1,52 @@
-// The lines that only a log has which is cut short, each appended to a buffer as `text::append` does.
-ghost use Rattle.text.specs.Append.{Appends};
+// The lines that only a log has which is cut short.
+ghost use Rattle.text.specs.Append.{Extends};
 ghost use Rattle.log_text.specs.Cut.{syndrome_text, before_text, cut_text};
 
 use super::{decimal_field, hex_field};
 use log_cut::Cut;
 use registers::Esr;
+use text::Text;
 
 // A syndrome whose address doesn't precede the cut.
-pub fn syndrome_line(out: &mut [u8], at: usize, esr: Esr) -> usize
-    ensures { Appends (syndrome_text esr) out.old at out.new result }
+pub fn syndrome_line(text: &mut Text<'_>, esr: Esr)
+    ensures { Extends (syndrome_text esr) text.old text.new }
 {
-    let word = text::append(out, at, b"syndrome");
-    let number = hex_field(out, word, esr.0);
-    text::append(out, number, b"\n")
+    text.append(b"syndrome");
+    hex_field(text, esr.0);
+    text.append(b"\n");
 }
 
 // How much of a section precedes the cut.
-fn before(out: &mut [u8], at: usize, cut: Cut) -> usize
-    ensures { Appends (before_text cut) out.old at out.new result }
+fn preceding(text: &mut Text<'_>, cut: Cut)
+    ensures { Extends (before_text cut) text.old text.new }
 {
     match cut {
         Cut::Count { bytes } => {
-            let there = decimal_field(out, at, bytes as u64);
-            text::append(out, there, b" of 4 bytes of its count")
+            decimal_field(text, bytes as u64);
+            text.append(b" of 4 bytes of its count");
         }
         Cut::Entries {
             whole,
             count,
             bytes,
         } => {
-            let first = decimal_field(out, at, whole as u64);
-            let second = text::append(out, first, b" of");
-            let third = decimal_field(out, second, count as u64);
-            let fourth = text::append(out, third, b" entries in");
-            let fifth = decimal_field(out, fourth, bytes as u64);
-            text::append(out, fifth, b" bytes")
+            decimal_field(text, whole as u64);
+            text.append(b" of");
+            decimal_field(text, count as u64);
+            text.append(b" entries in");
+            decimal_field(text, bytes as u64);
+            text.append(b" bytes");
         }
     }
 }
 
 // Where a section is cut.
-pub fn cut_line(out: &mut [u8], at: usize, section: u32, cut: Cut) -> usize
-    ensures { Appends (cut_text section cut) out.old at out.new result }
+pub fn cut_line(text: &mut Text<'_>, section: u32, cut: Cut)
+    ensures { Extends (cut_text section cut) text.old text.new }
 {
-    let word = text::append(out, at, b"cut in section");
-    let number = decimal_field(out, word, section as u64);
-    let colon = text::append(out, number, b":");
-    let told = before(out, colon, cut);
-    text::append(out, told, b"\n")
+    text.append(b"cut in section");
+    decimal_field(text, section as u64);
+    text.append(b":");
+    preceding(text, cut);
+    text.append(b"\n");
 }

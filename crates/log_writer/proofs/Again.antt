@@ -6,20 +6,20 @@ use mathlib.Core.Bool.{true}
 use mathlib.Core.List.{List, [], ◌∷◌}
 use Prim.Native.Nat.{ℕ, suc, ◌+◌, ◌^◌, ◌≤◌, ◌<◌}
 use native.Mathlib.Omega.{arith}
+use Rattle.std.specs.Prelude.{Ok, Err}
 use lib.ListN.{length, take, drop, get_or}
 use lib.Seq.{take_at, drop_at}
 use Rattle.log_section.specs.Number.{Bytes}
 use Rattle.log_section.specs.Section.{injection_size}
 use Rattle.log_section.specs.Log.{Address, Entries, domains_fit, log_of, entries_of}
 use Rattle.trap_log.specs.Answer.{read_of}
-use Rattle.trap_log.specs.declared.answer.Read.TheVariants.{Accepted}
 use Rattle.log_section.proofs.Codec.{Each}
 use Rattle.log_section.proofs.Domains.{domains_fit_exactly}
 use Rattle.trap_log.proofs.RoundTrip.{Fitting, PairFits, Writable, accepts, log_length, log_again, log_accepted, log_entries, entries_agree}
 use Rattle.trap_log.proofs.RoundTrip.{entries_fit}
 use Rattle.log_writer.specs.Lists.{Lists, paired, entries_from, fars_of, hpfars_of, lists_of}
 use Rattle.log_writer.specs.Write.{number_of, length_in, length_by, written_of, buffer_after}
-use Rattle.log_writer.specs.declared.answer.Written.TheVariants.{Log, NoRoom}
+use Rattle.log_writer.specs.declared.answer.WriteRefusal.TheVariants.{NoRoom}
 use Rattle.log_writer.proofs.Putting.{paired_length}
 use Rattle.log_writer.proofs.Tests.{no_room_lem, has_room}
 use Rattle.log_writer.proofs.Answers.{zero_exactly}
@@ -38,7 +38,7 @@ paired_again [] = refl
 paired_again (a ∷ rest) = ap (λ (more : List Address). a ∷ more) (paired_again rest)
 
 -- WRITTEN AGAIN: for every accepted log and every buffer, 17 where the log has no room there, else the same bytes at its front
-module _ (s : List ℕ) (b : Bytes s) {gone : ℕ} (e : read_of s ≡ Accepted gone) where
+module _ (s : List ℕ) (b : Bytes s) {gone : ℕ} (e : read_of s ≡ Ok gone) where
   -- the entries of the log
   abbrev own : Entries
   own = entries_of s
@@ -71,11 +71,11 @@ module _ (s : List ℕ) (b : Bytes s) {gone : ℕ} (e : read_of s ≡ Accepted g
   short : length_by (lists_of own) ≤ 65536
   short = rw same_length (accepts s e).short
 
-  pub written_again : (room : ℕ) → length s ≤ room → written_of (lists_of own) room ≡ Log (length s)
+  pub written_again : (room : ℕ) → length s ≤ room → written_of (lists_of own) room ≡ Ok (length s)
   written_again room h =
-      sym (has_room (lists_of own) room short fars_agree hpfars_agree (entries_fit s e) (rw same_length h)) ∙ ap Log same_length
+      sym (has_room (lists_of own) room short fars_agree hpfars_agree (entries_fit s e) (rw same_length h)) ∙ ap Ok same_length
 
-  pub no_room_again : (room : ℕ) → room < length s → written_of (lists_of own) room ≡ NoRoom
+  pub no_room_again : (room : ℕ) → room < length s → written_of (lists_of own) room ≡ Err NoRoom
   no_room_again room h = sym (no_room_lem (lists_of own) room short fars_agree hpfars_agree (entries_fit s e) (rw same_length h))
 
 -- slices of bytes and of 64-bit words hold what fits their entries
@@ -99,7 +99,7 @@ pub record Fits (l : Lists) : Type 0 where
   pub injections : (i : ℕ) → get_or l.injections i 0 < 2 ^ 16
 
 -- READ BACK: what was written into any buffer is accepted, with the entries that were given, and what lies past it is as it was
-module _ (l : Lists) (fits : Fits l) (before : List ℕ) {n : ℕ} (w : written_of l (length before) ≡ Log n) where
+module _ (l : Lists) (fits : Fits l) (before : List ℕ) {n : ℕ} (w : written_of l (length before) ≡ Ok n) where
   -- the entries that the lists make
   abbrev given : Entries
   given = entries_from l
@@ -144,8 +144,8 @@ module _ (l : Lists) (fits : Fits l) (before : List ℕ) {n : ℕ} (w : written_
   past_kept = rw w (drop_at (log_of given) (drop n before) n whole)
 
   pub accepted_back : read_of (take n after)
-      ≡ Accepted (4 + length l.editions + length l.syndromes + length l.fars + length l.injections)
-  accepted_back = ap read_of front ∙ log_accepted given writable ∙ ap Accepted (omega (arith, count))
+      ≡ Ok (4 + length l.editions + length l.syndromes + length l.fars + length l.injections)
+  accepted_back = ap read_of front ∙ log_accepted given writable ∙ ap Ok (omega (arith, count))
 
   pub entries_back : entries_of (take n after) ≡ given
   entries_back = ap entries_of front ∙ log_entries given writable

@@ -7,6 +7,7 @@ use mathlib.Core.Logic.{◌↔◌, ◌⊎◌, inl, inr}
 use Prim.Native.Nat.{ℕ, ◌≤◌, ◌<◌}
 use borrow.Author.Tests.{leb-true, leb-false, le-leb, lt-leb, eqb-true, eq-eqb}
 use lib.Dec.{eqb, lit≤}
+use Rattle.std.specs.Prelude.{Result, Ok, Err}
 use lib.ListN.{length, get_or}
 use Rattle.bits.specs.Decide.{decide, FirstFails}
 use Rattle.bits.proofs.Booleans.{and_left, and_right, not_true_false}
@@ -15,8 +16,8 @@ use Rattle.log_section.specs.Log.{domain_of, domains_fit}
 use Rattle.log_section.proofs.Domains.{domains_fit_exactly}
 use Rattle.log_writer.specs.Lists.{Lists}
 use Rattle.log_writer.specs.Write.{number_of, length_in, length_by, agreeing, write_tests, written_of, write_numbers, buffer_after}
-use Rattle.log_writer.specs.declared.answer.Written.{Written}
-use Rattle.log_writer.specs.declared.answer.Written.TheVariants.{Log, TooLong, Unequal, NoRoom, WideDomain}
+use Rattle.log_writer.specs.declared.answer.WriteRefusal.{WriteRefusal}
+use Rattle.log_writer.specs.declared.answer.WriteRefusal.TheVariants.{TooLong, Unequal, NoRoom, WideDomain}
 
 -- as many FARs and as many HPFARs as syndromes
 abbrev pub Agree : Lists → Type 0
@@ -49,7 +50,7 @@ true_fit l = (domains_fit_exactly l.injections).0
 module _ (l : Lists) (room : ℕ) where
   pub number_decided : number_of (written_of l room) ≡ decide (write_numbers l room) 0
   unfolding written_of
-  number_decided = decide_relabel number_of (write_tests l room) (Log (length_by l))
+  number_decided = decide_relabel number_of (write_tests l room) (Ok (length_by l))
 
   -- EACH NUMBER EXACTLY: a number comes exactly when its test is the first that fails, and 0 exactly when none fails
   pub write_exactly : (k : ℕ) → (number_of (written_of l room) ≡ k) ↔ FirstFails k (write_numbers l room)
@@ -115,18 +116,15 @@ module _ (l : Lists) (room : ℕ) where
   )
 
 -- no other number comes: 0 with the log's length, 15 to 17 and 20 without
-pub write_numbers_lem : (a : Written)
+pub write_numbers_lem : (a : Result ℕ WriteRefusal)
     → (number_of a ≡ 0) ⊎ ((((15 ≤ number_of a) × (number_of a ≤ 17)) ⊎ (number_of a ≡ 20)) × (length_in a ≡ 0))
-write_numbers_lem (Log n) = inl refl
-write_numbers_lem Unequal = inr (inl (lit≤ tt, lit≤ tt), refl)
-write_numbers_lem TooLong = inr (inl (lit≤ tt, lit≤ tt), refl)
-write_numbers_lem NoRoom = inr (inl (lit≤ tt, lit≤ tt), refl)
-write_numbers_lem WideDomain = inr (inr refl, refl)
+write_numbers_lem (Ok n) = inl refl
+write_numbers_lem (Err Unequal) = inr (inl (lit≤ tt, lit≤ tt), refl)
+write_numbers_lem (Err TooLong) = inr (inl (lit≤ tt, lit≤ tt), refl)
+write_numbers_lem (Err NoRoom) = inr (inl (lit≤ tt, lit≤ tt), refl)
+write_numbers_lem (Err WideDomain) = inr (inr refl, refl)
 
 -- every refusal leaves the buffer untouched
-pub refused_untouched : (a : Written) (log before : List ℕ) → (number_of a ≡ 0 → ⊥) → buffer_after a log before ≡ before
-refused_untouched (Log n) log before never = absurd (never refl)
-refused_untouched Unequal log before never = refl
-refused_untouched TooLong log before never = refl
-refused_untouched NoRoom log before never = refl
-refused_untouched WideDomain log before never = refl
+pub refused_untouched : (a : Result ℕ WriteRefusal) (log before : List ℕ) → (number_of a ≡ 0 → ⊥) → buffer_after a log before ≡ before
+refused_untouched (Ok n) log before never = absurd (never refl)
+refused_untouched (Err refusal) log before never = refl

@@ -1,15 +1,17 @@
 -- Bytes put into a buffer one after the other, and the entries of a section put one by one.
 -- Assumes nothing.
 use mathlib.Core.Path.{◌≡◌, refl, sym, ap, ◌∙◌}
-use mathlib.Core.List.{List, [], ◌∷◌, ◌++◌}
-use Prim.Native.Nat.{ℕ, zero, suc, ◌+◌, ◌*◌, ◌/◌, ◌%◌, ◌≤◌, ◌<◌}
-use native.Mathlib.Nat.{add-zero, add_assoc, zero-mul, suc-mul, div-div-eq-div-mul, mod-eq_of_lt}
+use mathlib.Core.List.{List, [], ◌∷◌, ◌++◌, append_assoc}
+use Prim.Native.Nat.{ℕ, zero, suc, ◌+◌, ◌*◌, ◌/◌, ◌%◌, ◌^◌, ◌≤◌, ◌<◌}
+use native.Mathlib.Nat.{add-zero, add_assoc, zero-mul, suc-mul, div-div-eq-div-mul, mod-eq_of_lt, pow-zero, pow-suc, div-one}
 use native.Mathlib.Numerals.{add-one}
 use native.Mathlib.Omega.{arith}
-use lib.ListN.{length, drop, get_or, set}
-use lib.Seq.{sets, length-sets, drop-cons, drop-length}
+use lib.ListN.{length, take, drop, get_or, set}
+use lib.Seq.{sets, sets-eq, drop-drop, length-sets, drop-cons, drop-length}
+use borrow.Rule.Slice.PartMut.{put_mid}
+use Rattle.std.specs.Int.{bytes_low_first}
 use Rattle.log_section.specs.Number.{little}
-use Rattle.log_section.specs.Log.{byte, pair, nowhere, entry_bytes}
+use Rattle.log_section.specs.Log.{Address, byte, pair, entry_bytes}
 use Rattle.log_section.proofs.Numbers.{length_little}
 use Rattle.log_writer.specs.Lists.{paired}
 
@@ -18,26 +20,30 @@ pub sets_both : (xs ys l : List ℕ) (at end : ℕ) → end ≡ at + length xs �
 sets_both [] ys l at end e = rw (e, add-zero)
 sets_both (x ∷ xs) ys l at end e = sets_both xs ys (set l at x) (suc at) end (omega arith)
 
--- a number in its bytes, and eight bytes as twice four
-pub two_stored : (l : List ℕ) (at n : ℕ) → set (set l at (n % 256)) (at + 1) (n / 256 % 256) ≡ sets l at (little 2 n)
+-- the library's bytes of a number
+low_first : (k i n : ℕ) → bytes_low_first i k n ≡ little k (n / 256 ^ i)
 unfolding little
-two_stored l at n = rw (add-one at)
+low_first zero i n = refl
+low_first (suc k) zero n =
+    rw (pow-zero, div-one) (ap (λ (rest : List ℕ). n % 256 ∷ rest) (low_first k 1 n))
+low_first (suc k) (suc i) n =
+    let next : n / 256 ^ suc i / 256 ≡ n / 256 ^ suc (suc i) = div-div-eq-div-mul n (256 ^ suc i) 256 ∙ ap (λ (m : ℕ). n / m) (sym (pow-suc 256 (suc i))) in
+    rw next (ap (λ (rest : List ℕ). n / 256 ^ suc i % 256 ∷ rest) (low_first k (suc (suc i)) n))
 
-pub four_stored : (l : List ℕ) (at n : ℕ)
-    → set (set (set (set l at (n % 256)) (at + 1) (n / 256 % 256)) (at + 2) (n / 256 / 256 % 256)) (at + 3) (n / 256 / 256 / 256 % 256)
-    ≡ sets l at (little 4 n)
-unfolding little
-four_stored l at n =
-    let two : at + 2 ≡ suc (suc at) = omega arith in
-    let three : at + 3 ≡ suc (suc (suc at)) = omega arith in
-    rw (add-one at, two, three)
+pub low_bytes : (k n : ℕ) → bytes_low_first 0 k n ≡ little k n
+low_bytes k n = low_first k 0 n ∙ rw (pow-zero, div-one)
 
-pub eight_bytes : (n : ℕ) → little 4 n ++ little 4 (n / 4294967296) ≡ little 8 n
+-- of the bytes of a number, the first ones
+pub first_bytes : (j k n : ℕ) → j ≤ k → take j (little k n) ≡ little j n
 unfolding little
-eight_bytes n =
-    let e : n / 256 / 256 / 256 / 256 ≡ n / 4294967296 =
-    div-div-eq-div-mul (n / 256 / 256) 256 256 ∙ div-div-eq-div-mul (n / 256) 256 65536 ∙ div-div-eq-div-mul n 256 16777216 in
-    rw (← e)
+first_bytes zero k n h = refl
+first_bytes (suc j) zero n h = absurd (omega arith)
+first_bytes (suc j) (suc k) n h = ap (λ (rest : List ℕ). n % 256 ∷ rest) (first_bytes j k (n / 256) (omega arith))
+
+-- bytes copied over a part of a buffer
+pub copied : (l vs : List ℕ) (at k : ℕ) → k ≡ length vs → at + k ≤ length l → put_mid at k l vs ≡ sets l at vs
+copied l vs at k e h =
+    rw e (ap (λ (rest : List ℕ). take at l ++ (vs ++ rest)) (drop-drop (length vs) at l) ∙ sym (sets-eq vs l at (rw e at h) ∙ append_assoc (take at l) vs (drop (at + length vs) l)))
 
 pub byte_stored : (l : List ℕ) (at n : ℕ) → n < 256 → set l at n ≡ sets l at (byte n)
 unfolding little
@@ -49,23 +55,22 @@ paired_length [] hpfars e = refl
 paired_length (far ∷ fars) [] e = absurd (omega arith)
 paired_length (far ∷ fars) (hpfar ∷ hpfars) e = ap suc (paired_length fars hpfars (omega arith))
 
-pub paired_at : (fars hpfars : List ℕ) (i : ℕ) → length fars ≡ length hpfars → i < length fars
-    → get_or (paired fars hpfars) i nowhere ≡ record { far = get_or fars i 0; hpfar = get_or hpfars i 0 }
-paired_at [] hpfars i e h = absurd (omega arith)
-paired_at (far ∷ fars) [] i e h = absurd (omega arith)
-paired_at (far ∷ fars) (hpfar ∷ hpfars) zero e h = refl
-paired_at (far ∷ fars) (hpfar ∷ hpfars) (suc i) e h = paired_at fars hpfars i (omega arith) (omega arith)
+pub paired_at : (fars hpfars : List ℕ) (i : ℕ) (other : Address) → length fars ≡ length hpfars → i < length fars
+    → get_or (paired fars hpfars) i other ≡ record { far = get_or fars i 0; hpfar = get_or hpfars i 0 }
+paired_at [] hpfars i other e h = absurd (omega arith)
+paired_at (far ∷ fars) [] i other e h = absurd (omega arith)
+paired_at (far ∷ fars) (hpfar ∷ hpfars) zero other e h = refl
+paired_at (far ∷ fars) (hpfar ∷ hpfars) (suc i) other e h = paired_at fars hpfars i other (omega arith) (omega arith)
 
-pub pair_stored : (fars hpfars out : List ℕ) (i end middle : ℕ) → length fars ≡ length hpfars → i < length fars → middle ≡ end + 8
+pub pair_stored : (fars hpfars out : List ℕ) (i end middle : ℕ) → middle ≡ end + 8
     → sets (sets out end (little 8 (get_or fars i 0))) middle (little 8 (get_or hpfars i 0))
-    ≡ sets out end (pair (get_or (paired fars hpfars) i nowhere))
-pair_stored fars hpfars out i end middle e h m =
-    rw (paired_at fars hpfars i e h)
-    (sets_both (little 8 (get_or fars i 0)) (little 8 (get_or hpfars i 0)) out end middle
-    (m ∙ ap (λ (k : ℕ). end + k) (sym (length_little 8 (get_or fars i 0)))))
+    ≡ sets out end (pair record { far = get_or fars i 0; hpfar = get_or hpfars i 0 })
+pair_stored fars hpfars out i end middle m =
+    sets_both (little 8 (get_or fars i 0)) (little 8 (get_or hpfars i 0)) out end middle
+    (m ∙ ap (λ (k : ℕ). end + k) (sym (length_little 8 (get_or fars i 0))))
 
 -- a section whose first i entries were put: what is left of them, put behind those, gives what all of them give
-module _ {A : Type 0} (bytes : A → List ℕ) (size : ℕ) (sized : (a : A) → length (bytes a) ≡ size) (entries : List A) (other : A)
+module _ {A : Type 0} (bytes : A → List ℕ) (size : ℕ) (sized : (a : A) → length (bytes a) ≡ size) (entries : List A)
     (out₀ : List ℕ) (end₀ : ℕ) where
   pub record Putting (out : List ℕ) (end i : ℕ) : Type 0 where
     pub within : i ≤ length entries
@@ -76,18 +81,18 @@ module _ {A : Type 0} (bytes : A → List ℕ) (size : ℕ) (sized : (a : A) →
   pub begun : Putting out₀ end₀ 0
   begun = record { within = omega arith; same = refl; ends = rw (zero-mul, add-zero); stored = refl }
 
-  pub put_one : {out : List ℕ} {end i : ℕ} → Putting out end i → i < length entries → (out' : List ℕ) (end' : ℕ)
-      → out' ≡ sets out end (bytes (get_or entries i other)) → end' ≡ end + size → Putting out' end' (i + 1)
-  put_one {out} {end} {i} p more out' end' e n =
+  pub put_one : {out : List ℕ} {end i : ℕ} → Putting out end i → i < length entries → (x : A) → x ≡ get_or entries i x
+      → (out' : List ℕ) (end' : ℕ) → out' ≡ sets out end (bytes x) → end' ≡ end + size → Putting out' end' (i + 1)
+  put_one {out} {end} {i} p more x is out' end' e n =
       let rest = entry_bytes bytes (drop (suc i) entries) in
-      let one = bytes (get_or entries i other) in
       record {
         within = omega arith;
-        same = ap length e ∙ length-sets out end one ∙ p.same;
+        same = ap length e ∙ length-sets out end (bytes x) ∙ p.same;
         ends = n ∙ rw (p.ends, add-one i, suc-mul) (add_assoc end₀ (i * size) size);
         stored =
-            rw (e, add-one i) (sets_both one rest out end end' (n ∙ ap (λ (k : ℕ). end + k) (sym (sized (get_or entries i other))))
-            ∙ ap (λ (l : List A). sets out end (entry_bytes bytes l)) (sym (drop-cons entries i other more)) ∙ p.stored);
+            rw (e, add-one i) (sets_both (bytes x) rest out end end' (n ∙ ap (λ (k : ℕ). end + k) (sym (sized x)))
+            ∙ ap (λ (l : List A). sets out end (entry_bytes bytes l))
+            (ap (λ (y : A). y ∷ drop (suc i) entries) is ∙ sym (drop-cons entries i x more)) ∙ p.stored);
       }
 
   pub put_all : {out : List ℕ} {end i : ℕ} → Putting out end i → length entries ≤ i

@@ -7,6 +7,7 @@ use Prim.Native.Nat.{ℕ, ◌+◌, ◌*◌, ◌≤◌, ◌<◌, min}
 use native.Mathlib.Omega.{arith}
 use borrow.Author.Tests.{le-leb, lt-leb, eq-eqb, ne_eqb}
 use lib.Dec.{eqb}
+use Rattle.std.specs.Prelude.{Result, Ok, Err}
 use lib.ListN.{length, drop, length-append}
 use lib.Seq.{sets, sets-eq}
 use Rattle.bits.proofs.Deciding.{decide_relabel, answer_is}
@@ -15,36 +16,36 @@ use Rattle.log_section.specs.Log.{byte, word, pair, injection, domains_fit, sect
 use Rattle.trap_log.proofs.RoundTrip.{numbers_length, pairs_length}
 use Rattle.log_writer.specs.Lists.{Lists, paired, entries_from}
 use Rattle.log_writer.specs.Write.{number_of, length_in, length_by, write_tests, written_of, buffer_after, Writing}
-use Rattle.log_writer.specs.declared.answer.Written.{Written}
-use Rattle.log_writer.specs.declared.answer.Written.TheVariants.{Log, TooLong, Unequal, NoRoom, WideDomain}
+use Rattle.log_writer.specs.declared.answer.WriteRefusal.{WriteRefusal}
+use Rattle.log_writer.specs.declared.answer.WriteRefusal.TheVariants.{TooLong, Unequal, NoRoom, WideDomain}
 use Rattle.log_writer.proofs.Putting.{sets_both, paired_length}
 
 -- number and length follow from the answer
-pub promised : (l : Lists) (before after : List ℕ) (a : Written) → a ≡ written_of l (length before)
+pub promised : (l : Lists) (before after : List ℕ) (a : Result ℕ WriteRefusal) → a ≡ written_of l (length before)
     → after ≡ buffer_after a (log_of (entries_from l)) before → Writing l before after a
 unfolding written_of
 promised l before after a e b =
-    let P : Written → Type 0 = λ x. length_in x ≡ cond (eqb (number_of x) 0) (length_by l) 0 in
+    let P : Result ℕ WriteRefusal → Type 0 = λ x. length_in x ≡ cond (eqb (number_of x) 0) (length_by l) 0 in
     let tests = write_tests l (length before) in
     record {
       answer = e;
-      number = ap number_of e ∙ decide_relabel number_of tests (Log (length_by l));
-      written = subst P (sym e) (answer_is P tests (Log (length_by l)) (refl, (refl, (refl, (refl, tt)))) refl);
+      number = ap number_of e ∙ decide_relabel number_of tests (Ok (length_by l));
+      written = subst P (sym e) (answer_is P tests (Ok (length_by l)) (refl, (refl, (refl, (refl, tt)))) refl);
       buffer = b;
     }
 
 module _ (l : Lists) (room : ℕ) where
-  pub too_long_lem : 65536 < length_by l → TooLong ≡ written_of l room
+  pub too_long_lem : 65536 < length_by l → Err TooLong ≡ written_of l room
   unfolding written_of
   too_long_lem h = sym (simp (lt-leb (length_by l) 65536 h))
 
   module _ (short : length_by l ≤ 65536) where
-    pub other_fars : (length l.syndromes ≡ length l.fars → ⊥) → Unequal ≡ written_of l room
+    pub other_fars : (length l.syndromes ≡ length l.fars → ⊥) → Err Unequal ≡ written_of l room
     unfolding written_of
     other_fars h = sym (simp (le-leb (length_by l) 65536 short, ne_eqb (length l.syndromes) (length l.fars) h))
 
     module _ (fars_agree : length l.syndromes ≡ length l.fars) where
-      pub other_hpfars : (length l.syndromes ≡ length l.hpfars → ⊥) → Unequal ≡ written_of l room
+      pub other_hpfars : (length l.syndromes ≡ length l.hpfars → ⊥) → Err Unequal ≡ written_of l room
       unfolding written_of
       other_hpfars h =
           sym (simp (
@@ -54,7 +55,7 @@ module _ (l : Lists) (room : ℕ) where
           ))
 
       module _ (hpfars_agree : length l.syndromes ≡ length l.hpfars) where
-        pub wide_domain_lem : domains_fit l.injections ≡ false → WideDomain ≡ written_of l room
+        pub wide_domain_lem : domains_fit l.injections ≡ false → Err WideDomain ≡ written_of l room
         unfolding written_of
         wide_domain_lem wide =
             sym (simp (
@@ -65,7 +66,7 @@ module _ (l : Lists) (room : ℕ) where
             ))
 
         module _ (fit : domains_fit l.injections ≡ true) where
-          pub no_room_lem : room < length_by l → NoRoom ≡ written_of l room
+          pub no_room_lem : room < length_by l → Err NoRoom ≡ written_of l room
           unfolding written_of
           no_room_lem h =
               sym (simp (
@@ -76,7 +77,7 @@ module _ (l : Lists) (room : ℕ) where
                 lt-leb (length_by l) room h,
               ))
 
-          pub has_room : length_by l ≤ room → Log (length_by l) ≡ written_of l room
+          pub has_room : length_by l ≤ room → Ok (length_by l) ≡ written_of l room
           unfolding written_of
           has_room h =
               sym (simp (

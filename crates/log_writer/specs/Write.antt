@@ -1,26 +1,23 @@
 -- Requests C-14, "A log writer", and C-21: what writing a log answers, for all lists and every room, and the buffer after it.
-use Rattle.std.specs.Prelude.{ℕ, ◌+◌, ◌*◌, max, ◌≡◌, Bool, cond, ◌&&◌, List, [], ◌∷◌, ◌++◌, leb, eqb, length, drop}
+use Rattle.std.specs.Prelude.{ℕ, ◌+◌, ◌*◌, max, ◌≡◌, Bool, cond, ◌&&◌, Result, Ok, Err, List, [], ◌∷◌, ◌++◌, leb, eqb, length, drop}
 use Rattle.bits.specs.Decide.{Test, needs, decide}
 use Rattle.log_section.specs.Section.{injection_size}
 use Rattle.log_section.specs.Log.{domains_fit, log_of}
 use Rattle.log_writer.specs.Lists.{Lists, entries_from}
-use Rattle.log_writer.specs.declared.answer.Written.{Written}
-use Rattle.log_writer.specs.declared.answer.Written.TheVariants.{Log, TooLong, Unequal, NoRoom, WideDomain}
+use Rattle.log_writer.specs.declared.answer.WriteRefusal.{WriteRefusal}
+use Rattle.log_writer.specs.declared.answer.WriteRefusal.TheVariants.{TooLong, Unequal, NoRoom, WideDomain}
 
-abbrev pub number_of : Written → ℕ
-number_of (Log n) = 0
-number_of Unequal = 15
-number_of TooLong = 16
-number_of NoRoom = 17
-number_of WideDomain = 20
+abbrev pub number_of : Result ℕ WriteRefusal → ℕ
+number_of (Ok n) = 0
+number_of (Err Unequal) = 15
+number_of (Err TooLong) = 16
+number_of (Err NoRoom) = 17
+number_of (Err WideDomain) = 20
 
 -- the length of the log that was written, and 0 on a refusal
-abbrev pub length_in : Written → ℕ
-length_in (Log n) = n
-length_in Unequal = 0
-length_in TooLong = 0
-length_in NoRoom = 0
-length_in WideDomain = 0
+abbrev pub length_in : Result ℕ WriteRefusal → ℕ
+length_in (Ok n) = n
+length_in (Err refusal) = 0
 
 -- the length by the counts: four counts, and the entries. An address that has only one of its words counts as an address.
 abbrev pub length_by : Lists → ℕ
@@ -44,27 +41,24 @@ module _ {A : Type 0} (too_long unequal wide_domain no_room : A) where
       ∷ []
 
 -- each with its answer, and with its number
-abbrev pub write_tests : Lists → ℕ → List (Test Written)
-write_tests l room = tests_of TooLong Unequal WideDomain NoRoom l room
+abbrev pub write_tests : Lists → ℕ → List (Test (Result ℕ WriteRefusal))
+write_tests l room = tests_of (Err TooLong) (Err Unequal) (Err WideDomain) (Err NoRoom) l room
 
 abbrev pub write_numbers : Lists → ℕ → List (Test ℕ)
 write_numbers l room = tests_of 16 15 20 17 l room
 
 -- the first test that fails gives the answer
-unfoldable pub written_of : Lists → ℕ → Written
-written_of l room = decide (write_tests l room) (Log (length_by l))
+unfoldable pub written_of : Lists → ℕ → Result ℕ WriteRefusal
+written_of l room = decide (write_tests l room) (Ok (length_by l))
 
 -- a log that was written stands at the front and what lies past it stays; a refusal leaves the whole buffer as it was
-abbrev pub buffer_after : Written → List ℕ → List ℕ → List ℕ
-buffer_after (Log n) log before = log ++ drop n before
-buffer_after Unequal log before = before
-buffer_after TooLong log before = before
-buffer_after NoRoom log before = before
-buffer_after WideDomain log before = before
+abbrev pub buffer_after : Result ℕ WriteRefusal → List ℕ → List ℕ → List ℕ
+buffer_after (Ok n) log before = log ++ drop n before
+buffer_after (Err refusal) log before = before
 
 -- THE PROMISE of writing, of the buffer before it and after it: the answer; its number, by the first test that fails; the length by the
 -- counts, 0 on a refusal; and the buffer
-pub record Writing (l : Lists) (before after : List ℕ) (a : Written) : Type 0 where
+pub record Writing (l : Lists) (before after : List ℕ) (a : Result ℕ WriteRefusal) : Type 0 where
   pub answer : a ≡ written_of l (length before)
   pub number : number_of a ≡ decide (write_numbers l (length before)) 0
   pub written : length_in a ≡ cond (eqb (number_of a) 0) (length_by l) 0

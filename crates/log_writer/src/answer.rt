@@ -1,11 +1,9 @@
-// What writing a log answers.
+// What writing a log answers: the log's length, or why it is refused.
 ghost use Rattle.std.specs.Prelude.{◌≡◌};
 ghost use Rattle.log_writer.specs.Write.{number_of, length_in};
 
-#[derive(Clone, Copy)]
-pub enum Written {
-    // The log's length.
-    Log(usize),
+#[derive(Clone, Copy, PartialEq, Eq)]
+pub enum WriteRefusal {
     // 15: the counts of syndromes, FAR words and HPFAR words are not all the same.
     Unequal,
     // 16: more than 65,536 bytes.
@@ -17,27 +15,21 @@ pub enum Written {
 }
 
 // The answer's number in the definition.
-pub fn number(answer: Written) -> u32
+pub fn number(answer: Result<usize, WriteRefusal>) -> u32
     ensures { result ≡ number_of answer }
 {
     match answer {
-        Written::Log(_) => 0,
-        Written::Unequal => 15,
-        Written::TooLong => 16,
-        Written::NoRoom => 17,
-        Written::WideDomain => 20,
+        Ok(_) => 0,
+        Err(WriteRefusal::Unequal) => 15,
+        Err(WriteRefusal::TooLong) => 16,
+        Err(WriteRefusal::NoRoom) => 17,
+        Err(WriteRefusal::WideDomain) => 20,
     }
 }
 
 // The length of the log that was written, and 0 on a refusal.
-pub fn length_in(answer: Written) -> usize
+pub fn length_in(answer: Result<usize, WriteRefusal>) -> usize
     ensures { result ≡ length_in answer }
 {
-    match answer {
-        Written::Log(n) => n,
-        Written::Unequal => 0,
-        Written::TooLong => 0,
-        Written::NoRoom => 0,
-        Written::WideDomain => 0,
-    }
+    answer.unwrap_or(0)
 }

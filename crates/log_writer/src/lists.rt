@@ -1,52 +1,31 @@
 // The writer over plain slices. Nothing here tells a syndrome from an address: the crate's `write` does, and no other crate can call this.
-ghost use Rattle.std.specs.Prelude.{◌≡◌, ◌+◌, ◌*◌, min, max};
+ghost use Rattle.std.specs.Prelude.{◌≡◌, ◌+◌, ◌*◌, min};
 ghost use Rattle.log_section.specs.Log.{domains_fit};
 ghost use Rattle.log_writer.specs.Lists.{Lists};
 ghost use Rattle.log_writer.specs.Write.{Writing};
 
-use super::answer::Written;
+use super::answer::WriteRefusal;
 use super::put;
-
-fn larger(a: usize, b: usize) -> usize
-    ensures { result ≡ max a b }
-{
-    if a < b { b } else { a }
-}
 
 // The length by the counts, or one more than a log may have where it is longer: no count wraps it.
 fn length_by(editions: usize, syndromes: usize, addresses: usize, injections: usize) -> usize
     ensures { result ≡ min (16 + editions + syndromes * 8 + addresses * 16 + injections * 2) 65537 }
 {
-    if trap_log::MOST < editions {
-        return trap_log::MOST + 1;
-    }
-    if trap_log::MOST < syndromes {
-        return trap_log::MOST + 1;
-    }
-    if trap_log::MOST < addresses {
-        return trap_log::MOST + 1;
-    }
-    if trap_log::MOST < injections {
+    if trap_log::MOST < editions.max(syndromes).max(addresses).max(injections) {
         return trap_log::MOST + 1;
     }
     let length = 16 + editions + syndromes * 8 + addresses * 16 + injections * 2;
-    if trap_log::MOST < length {
-        trap_log::MOST + 1
-    } else {
-        length
-    }
+    length.min(trap_log::MOST + 1)
 }
 
 // Whether each injection has a domain that may be. The lower byte isn't looked at.
 fn domains_fit(injections: &[u16]) -> bool
     ensures { result ≡ domains_fit injections.now }
 {
-    let mut i = 0;
-    while i < injections.len() {
-        if (trap_log::LAST_DOMAIN as u16) < injections[i] / 256 {
+    for n in injections {
+        if (trap_log::LAST_DOMAIN as u16) < n / 256 {
             return false;
         }
-        i += 1;
     }
     true
 }
@@ -59,30 +38,30 @@ pub(crate) fn write_lists<'a, 'b>(
     hpfars: &'a [u64],
     injections: &'a [u16],
     out: &'b mut [u8],
-) -> Written
+) -> Result<usize, WriteRefusal>
     ensures { Writing record { editions = editions.now; syndromes = syndromes.now; fars = fars.now; hpfars = hpfars.now; injections = injections.now } out.old out.new result }
 {
-    let addresses = larger(fars.len(), hpfars.len());
+    let addresses = fars.len().max(hpfars.len());
     let length = length_by(editions.len(), syndromes.len(), addresses, injections.len());
     if trap_log::MOST < length {
-        return Written::TooLong;
+        return Err(WriteRefusal::TooLong);
     }
     let fit = domains_fit(injections);
     if syndromes.len() != fars.len() {
-        return Written::Unequal;
+        return Err(WriteRefusal::Unequal);
     }
     if syndromes.len() != hpfars.len() {
-        return Written::Unequal;
+        return Err(WriteRefusal::Unequal);
     }
     if !fit {
-        return Written::WideDomain;
+        return Err(WriteRefusal::WideDomain);
     }
     if out.len() < length {
-        return Written::NoRoom;
+        return Err(WriteRefusal::NoRoom);
     }
-    let second = put::bytes(out, 0, editions);
-    let third = put::words(out, second, syndromes);
+    let second = put::section(out, 0, editions);
+    let third = put::section(out, second, syndromes);
     let fourth = put::pairs(out, third, fars, hpfars);
-    put::halves(out, fourth, injections);
-    Written::Log(length)
+    put::section(out, fourth, injections);
+    Ok(length)
 }

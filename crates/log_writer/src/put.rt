@@ -1,98 +1,94 @@
-// Numbers and sections put into a buffer with room for them. Each gives where the next one goes.
-ghost use Rattle.std.specs.Prelude.{◌≡◌, ◌+◌, ◌*◌, ◌≤◌, length};
+// Entries and sections put into a buffer with room for them. Each gives where the next one goes.
+ghost use Rattle.std.specs.Prelude.{◌≡◌, ◌+◌, ◌*◌, ◌≤◌, ℕ, List, length};
 ghost use Rattle.std.proofs.lemmas.List.Edits.{sets};
 ghost use Rattle.log_section.specs.Number.{little};
 ghost use Rattle.log_section.specs.Log.{byte, word, pair, injection, section_bytes};
+ghost use Rattle.log_section.proofs.Numbers.{length_little};
 ghost use Rattle.log_writer.specs.Lists.{paired};
 
-// The two bytes of a number.
-fn two(out: &mut [u8], at: usize, half: u16) -> usize
-    requires { at + 2 ≤ length out.old }
-    ensures { (result ≡ at + 2) × (out.new ≡ sets out.old at (little 2 half)) }
-{
-    let upper = half / 256;
-    out[at] = (half % 256) as u8;
-    out[at + 1] = (upper % 256) as u8;
-    at + 2
+// An entry that is one number, in so many bytes, the lowest first.
+pub(crate) trait Entry: Copy {
+    ghost size: { ℕ };
+
+    ghost bytes: { Self → List ℕ };
+
+    fn put(self, out: &mut [u8], at: usize) -> usize
+        requires { at + size ≤ length out.old }
+        ensures { (result ≡ at + size) × (out.new ≡ sets out.old at (bytes self)) };
+
+    ghost sized: { (n : Self) → length (bytes n) ≡ size };
 }
 
-// The lowest four bytes of a number.
-fn four(out: &mut [u8], at: usize, n: u64) -> usize
+impl Entry for u8 {
+    ghost size = { 1 };
+
+    ghost bytes = { byte };
+
+    ghost sized = { length_little 1 };
+
+    fn put(self, out: &mut [u8], at: usize) -> usize {
+        out[at] = self;
+        at + 1
+    }
+}
+
+impl Entry for u16 {
+    ghost size = { 2 };
+
+    ghost bytes = { injection };
+
+    ghost sized = { length_little 2 };
+
+    fn put(self, out: &mut [u8], at: usize) -> usize {
+        out[at..at + 2].copy_from_slice(&self.to_le_bytes());
+        at + 2
+    }
+}
+
+impl Entry for u64 {
+    ghost size = { 8 };
+
+    ghost bytes = { word };
+
+    ghost sized = { length_little 8 };
+
+    fn put(self, out: &mut [u8], at: usize) -> usize {
+        out[at..at + 8].copy_from_slice(&self.to_le_bytes());
+        at + 8
+    }
+}
+
+// The lowest four bytes of a count.
+fn count(out: &mut [u8], at: usize, n: usize) -> usize
     requires { at + 4 ≤ length out.old }
     ensures { (result ≡ at + 4) × (out.new ≡ sets out.old at (little 4 n)) }
 {
-    let second = n / 256;
-    let third = second / 256;
-    let last = third / 256;
-    out[at] = (n % 256) as u8;
-    out[at + 1] = (second % 256) as u8;
-    out[at + 2] = (third % 256) as u8;
-    out[at + 3] = (last % 256) as u8;
+    out[at..at + 4].copy_from_slice(&n.to_le_bytes()[..4]);
     at + 4
 }
 
-fn eight(out: &mut [u8], at: usize, n: u64) -> usize
-    requires { at + 8 ≤ length out.old }
-    ensures { (result ≡ at + 8) × (out.new ≡ sets out.old at (little 8 n)) }
+// A section of entries.
+pub(crate) fn section<E: Entry>(out: &mut [u8], at: usize, entries: &[E]) -> usize
+    requires { at + 4 + length entries.now * E.size ≤ length out.old }
+    ensures { (result ≡ at + 4 + length entries.now * E.size) × (out.new ≡ sets out.old at (section_bytes E.bytes entries.now)) }
 {
-    let high = four(out, at, n);
-    four(out, high, n / 4294967296)
-}
-
-// A section of bytes: editions.
-pub(crate) fn bytes(out: &mut [u8], at: usize, entries: &[u8]) -> usize
-    requires { at + 4 + length entries.now ≤ length out.old }
-    ensures { (result ≡ at + 4 + length entries.now) × (out.new ≡ sets out.old at (section_bytes byte entries.now)) }
-{
-    let mut end = four(out, at, entries.len() as u64);
-    let mut i = 0;
-    while i < entries.len() {
-        out[end] = entries[i];
-        end += 1;
-        i += 1;
-    }
-    end
-}
-
-// A section of numbers of two bytes: injections.
-pub(crate) fn halves(out: &mut [u8], at: usize, entries: &[u16]) -> usize
-    requires { at + 4 + length entries.now * 2 ≤ length out.old }
-    ensures { (result ≡ at + 4 + length entries.now * 2) × (out.new ≡ sets out.old at (section_bytes injection entries.now)) }
-{
-    let mut end = four(out, at, entries.len() as u64);
-    let mut i = 0;
-    while i < entries.len() {
-        end = two(out, end, entries[i]);
-        i += 1;
-    }
-    end
-}
-
-// A section of words: syndromes.
-pub(crate) fn words(out: &mut [u8], at: usize, entries: &[u64]) -> usize
-    requires { at + 4 + length entries.now * 8 ≤ length out.old }
-    ensures { (result ≡ at + 4 + length entries.now * 8) × (out.new ≡ sets out.old at (section_bytes word entries.now)) }
-{
-    let mut end = four(out, at, entries.len() as u64);
-    let mut i = 0;
-    while i < entries.len() {
-        end = eight(out, end, entries[i]);
-        i += 1;
+    let mut end = count(out, at, entries.len());
+    for entry in entries {
+        end = entry.put(out, end);
     }
     end
 }
 
 // A section of pairs, FAR and then HPFAR: addresses.
+// Kept beside `section`: a pair comes from two slices, so that it is no entry of a slice.
 pub(crate) fn pairs(out: &mut [u8], at: usize, fars: &[u64], hpfars: &[u64]) -> usize
     requires { (length fars.now ≡ length hpfars.now) × (at + 4 + length fars.now * 16 ≤ length out.old) }
     ensures { (result ≡ at + 4 + length fars.now * 16) × (out.new ≡ sets out.old at (section_bytes pair (paired fars.now hpfars.now))) }
 {
-    let mut end = four(out, at, fars.len() as u64);
-    let mut i = 0;
-    while i < fars.len() {
-        let middle = eight(out, end, fars[i]);
-        end = eight(out, middle, hpfars[i]);
-        i += 1;
+    let mut end = count(out, at, fars.len());
+    for i in 0..fars.len() {
+        let middle = fars[i].put(out, end);
+        end = hpfars[i].put(out, middle);
     }
     end
 }

@@ -4,10 +4,10 @@
 ghost use Rattle.guest.specs.Promise.{Injecting};
 
 use exception::Guest;
-use guest::{Injection, inject};
+use guest::{Injection, InjectionRefusal, inject};
 
 // Injects into the state where it lies: answer and state are those of the call by value, on a refusal too.
-pub fn inject_in_place(state: &mut Guest, what: Injection) -> guest::Answer
+pub fn inject_in_place(state: &mut Guest, what: Injection) -> Result<(), InjectionRefusal>
     ensures { Injecting state.old what (record { answer = result; state = state.new }) }
 {
     let after = inject(*state, what);

@@ -1,6 +1,6 @@
 // The texts as one array of bytes, cut by where each starts.
 ghost use Rattle.std.specs.Prelude.{◌-◌, ◌<◌, ◌≤◌, ◌≡◌, [], get_or, take, drop};
-ghost use Rattle.text.specs.Append.{Appends};
+ghost use Rattle.text.specs.Append.{Extends};
 ghost use Rattle.names.specs.Table.{texts, lists, together};
 
 const LISTS: usize = 39;
@@ -325,40 +325,35 @@ const FIRSTS: [u16; 40] = [
     438,
 ];
 
-fn wide(n: u16) -> usize
-    ensures { result ≡ n }
-{
-    n as usize
-}
+use text::Text;
 
 // Appends the bytes from `start` to `end`.
-fn cut(out: &mut [u8], at: usize, start: usize, end: usize) -> usize
+fn cut(text: &mut Text<'_>, start: usize, end: usize)
     requires { (start ≤ end) × (end ≤ 9643) }
-    ensures { Appends (take (end - start) (drop start (together texts))) out.old at out.new result }
+    ensures { Extends (take (end - start) (drop start (together texts))) text.old text.new }
 {
-    text::append(out, at, &BYTES[start..end])
+    text.append(&BYTES[start..end]);
 }
 
 // Appends text n.
-fn text_at(out: &mut [u8], at: usize, n: usize) -> usize
+fn text_at(text: &mut Text<'_>, n: usize)
     requires { n < 438 }
-    ensures { Appends (get_or texts n []) out.old at out.new result }
+    ensures { Extends (get_or texts n []) text.old text.new }
 {
-    let start = wide(STARTS[n]);
-    let end = wide(STARTS[n + 1]);
-    cut(out, at, start, end)
+    let start = usize::from(STARTS[n]);
+    let end = usize::from(STARTS[n + 1]);
+    cut(text, start, end);
 }
 
 // Appends entry i of a list, the labels being list 0, and nothing where there is none.
-pub(crate) fn entry(out: &mut [u8], at: usize, list: usize, i: u64) -> usize
-    ensures { Appends (get_or (get_or lists list []) i []) out.old at out.new result }
+pub(crate) fn entry(text: &mut Text<'_>, list: usize, i: u64)
+    ensures { Extends (get_or (get_or lists list []) i []) text.old text.new }
 {
     if list < LISTS {
-        let first = wide(FIRSTS[list]);
-        let last = wide(FIRSTS[list + 1]);
+        let first = usize::from(FIRSTS[list]);
+        let last = usize::from(FIRSTS[list + 1]);
         if i < (last - first) as u64 {
-            return text_at(out, at, first + i as usize);
+            text_at(text, first + i as usize);
         }
     }
-    at
 }

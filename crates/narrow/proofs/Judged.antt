@@ -7,6 +7,7 @@ use Prim.Native.Nat.{ℕ}
 use borrow.Author.Tests.{eqb-true, ne_eqb}
 use lib.Bits.{bit_and}
 use lib.Dec.{T, eqb}
+use Rattle.std.specs.Prelude.{Option, Some, None}
 use Rattle.bits.specs.Decide.{Either}
 use Rattle.bits.proofs.Booleans.{both_left, both_right, is_true}
 use Rattle.edition.specs.Mask.{mask_below}
@@ -38,22 +39,28 @@ module _ (n : ℕ) where
   fitting_mask rules fits = judged_mask rules (λ e. fits) (started (mask_below n (λ e. true)) fits) (start_mask fits)
 
 module _ (kind : ℕ → Bool) where
-  -- the numbers of rules are of some kind, which 0 is not
+  -- the numbers of rules are of some kind
   abbrev pub numbered : List Rule → Bool
   numbered [] = true
   numbered (always number holds ∷ rules) = kind number && numbered rules
   numbered (by number holds ∷ rules) = kind number && numbered rules
 
+  -- there is a number, and it is of the kind
+  abbrev pub of_kind : Option ℕ → Bool
+  of_kind None = false
+  of_kind (Some number) = kind number
+
   -- no edition is left and there is a number, or some are and there is none
   abbrev pub Told : Left → Type 0
-  Told left = Either (eqb left.mask 0) (kind left.why ≡ true) (left.why ≡ 0)
+  Told left = Either (eqb left.mask 0) (of_kind left.why ≡ true) (left.why ≡ None)
 
   leaves : (number mask : ℕ) (left : Left) → kind number ≡ true → (eqb left.mask 0 ≡ true → eqb mask 0 ≡ true) → Told left
       → Told (leaving number mask left)
   leaves number mask left known empty told = go (eqb mask 0) (eqb left.mask 0) empty told
     where
-      go : (now before : Bool) → (before ≡ true → now ≡ true) → Either before (kind left.why ≡ true) (left.why ≡ 0)
-          → Either now (kind (cond (now && not before) number left.why) ≡ true) (cond (now && not before) number left.why ≡ 0)
+      go : (now before : Bool) → (before ≡ true → now ≡ true) → Either before (of_kind left.why ≡ true) (left.why ≡ None)
+          → Either now (of_kind (cond (now && not before) (Some number) left.why) ≡ true)
+          (cond (now && not before) (Some number) left.why ≡ None)
       go true true e t = t
       go true false e t = known
       go false true e t = absurd (true≢false (sym (e refl)))
@@ -75,16 +82,15 @@ module _ (kind : ℕ → Bool) where
       (λ e. ap (λ (m : ℕ). eqb (bit_and m (mask_below n holds)) 0) (eqb-true left.mask 0 e)) told)
 
   -- so where there is none some edition is left, and where some edition is left there is none
-  pub some_left : kind 0 ≡ false → (left : Left) → Told left → left.why ≡ 0 → left.mask ≡ 0 → ⊥
-  some_left zero left told none empty =
-      true≢false (sym (rw (empty, none) at told) ∙ zero)
+  pub some_left : (left : Left) → Told left → left.why ≡ None → left.mask ≡ 0 → ⊥
+  some_left left told none empty = true≢false (sym (rw (empty, none) at told))
 
-  pub none_told : (left : Left) → Told left → (left.mask ≡ 0 → ⊥) → left.why ≡ 0
+  pub none_told : (left : Left) → Told left → (left.mask ≡ 0 → ⊥) → left.why ≡ None
   none_told left told some = rw (ne_eqb left.mask 0 some) at told
 
-  pub some_told : (left : Left) → Told left → (left.why ≡ 0 → ⊥) → kind left.why ≡ true
+  pub some_told : (left : Left) → Told left → (left.why ≡ None → ⊥) → of_kind left.why ≡ true
   some_told left told some = go (eqb left.mask 0) told
     where
-      go : (b : Bool) → Either b (kind left.why ≡ true) (left.why ≡ 0) → kind left.why ≡ true
+      go : (b : Bool) → Either b (of_kind left.why ≡ true) (left.why ≡ None) → of_kind left.why ≡ true
       go true t = t
       go false t = absurd (some t)

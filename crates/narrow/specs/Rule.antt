@@ -1,6 +1,6 @@
 -- Rules in their order, each with its number: one that asks nothing of the edition, and holds in all or in none, and one that goes by the
 -- edition. What they allow, and the first of them after which no edition is left.
-use Rattle.std.specs.Prelude.{ℕ, Bool, true, cond, not, ◌&&◌, List, [], ◌∷◌, eqb}
+use Rattle.std.specs.Prelude.{ℕ, Bool, true, cond, not, ◌&&◌, List, [], ◌∷◌, eqb, Some, None}
 use Rattle.std.specs.Int.Bits.{bit_and}
 use Rattle.narrow.specs.declared.Left.{Left}
 
@@ -16,11 +16,11 @@ allows (by number holds ∷ rules) e = holds e && allows rules e
 
 -- all editions where a record's fields fit their places, else none
 unfoldable pub started : ℕ → Bool → Left
-started all fits = record { mask = cond fits all 0; why = 0 }
+started all fits = record { mask = cond fits all 0; why = None }
 
 -- a mask is left of another: the rule's number comes where some edition was left and none is
 abbrev pub leaving : ℕ → ℕ → Left → Left
-leaving number mask left = record { mask = mask; why = cond (eqb mask 0 && not (eqb left.mask 0)) number left.why }
+leaving number mask left = record { mask = mask; why = cond (eqb mask 0 && not (eqb left.mask 0)) (Some number) left.why }
 
 -- what is left after a rule of either sort
 unfoldable pub kept : ℕ → Bool → Left → Left

@@ -4,41 +4,35 @@
 ghost use Rattle.std.specs.Prelude.{◌≡◌};
 ghost use Rattle.narrow.specs.Rule.{started, leaving, kept, narrowed};
 
-// The editions that are left, and the number of the rule after which none was: 0 where some are.
-#[derive(Clone, Copy)]
+// The editions that are left, and where there are none the number of the rule after which none was.
+#[derive(Clone, Copy, PartialEq, Eq)]
 pub struct Left {
     pub mask: u32,
-    pub why: u32,
+    pub why: Option<u32>,
 }
 
 // All editions where a record's fields fit their bits, else none.
+#[tactic(auto, unfolding(crate::specs::Rule::started))]
 pub fn start(all: u32, fits: bool) -> Left
     ensures { result ≡ started all fits }
 {
-    if fits {
-        Left { mask: all, why: 0 }
-    } else {
-        Left { mask: 0, why: 0 }
-    }
+    let mask = if fits { all } else { 0 };
+    Left { mask, why: None }
 }
 
 fn leaving(left: Left, number: u32, mask: u32) -> Left
     ensures { result ≡ leaving number mask left }
 {
-    if (mask == 0) & !(left.mask == 0) {
-        Left {
-            mask: mask,
-            why: number,
-        }
+    let why = if (mask == 0) & !(left.mask == 0) {
+        Some(number)
     } else {
-        Left {
-            mask: mask,
-            why: left.why,
-        }
-    }
+        left.why
+    };
+    Left { mask, why }
 }
 
 // A rule that asks nothing of the edition.
+#[tactic(auto, unfolding(crate::specs::Rule::kept))]
 pub fn keep(left: Left, number: u32, holds: bool) -> Left
     ensures { result ≡ kept number holds left }
 {
@@ -50,6 +44,7 @@ pub fn keep(left: Left, number: u32, holds: bool) -> Left
 }
 
 // A rule that goes by the edition: the mask of those where it holds.
+#[tactic(auto, unfolding(crate::specs::Rule::narrowed))]
 pub fn narrow(left: Left, number: u32, mask: u32) -> Left
     ensures { result ≡ narrowed number mask left }
 {

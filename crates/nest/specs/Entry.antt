@@ -1,8 +1,7 @@
 -- What enters a mode: the five injections of document 01 and the deliveries of request C-19, as exceptions of a nest (02, C-22).
-use Rattle.std.specs.Prelude.{◌≡◌, List, [], ◌∷◌, ℕ}
+use Rattle.std.specs.Prelude.{◌≡◌, List, [], ◌∷◌, ℕ, Ok}
 use Rattle.signed.specs.declared.Signed.{Signed}
 use Rattle.exception.specs.declared.state.Guest.{Guest}
-use Rattle.guest.specs.declared.answer.Answer.TheVariants.{Accepted}
 use Rattle.guest.specs.declared.injection.Injection.{Injection}
 use Rattle.guest.specs.declared.injection.Injection.TheVariants.{UndefinedAt, UndefinedAfter, SupervisorCall, PrefetchAbort, DataAbort}
 use Rattle.guest.specs.Injection.{injection_row}
@@ -44,7 +43,7 @@ exception_of (delivering l k) =
 
 -- it is taken in a state: the injection answers 0, or the step names the kind
 abbrev pub TakenIn : Guest → Entry → Type 0
-TakenIn s (injecting i) = injection_answer s i ≡ Accepted
+TakenIn s (injecting i) = injection_answer s i ≡ Ok tt
 TakenIn s (delivering l k) = (step_of guest_delivery l s).answer ≡ delivered k
 
 -- the state that the call leaves

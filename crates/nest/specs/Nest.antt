@@ -1,8 +1,7 @@
 -- A nest of injections and deliveries (02, C-22): "Repeat it for a whole nest of injections, each returned in turn, as long as no two enter
 -- the same mode".
-use Rattle.std.specs.Prelude.{◌≡◌, List, [], ◌∷◌}
+use Rattle.std.specs.Prelude.{◌≡◌, List, [], ◌∷◌, Ok}
 use Rattle.exception.specs.declared.state.Guest.{Guest}
-use Rattle.resume.specs.declared.Answer.TheVariants.{Returned}
 use Rattle.resume.specs.Return.{returned}
 use Rattle.resume.specs.Nest.{Exception}
 use Rattle.nest.specs.Entry.{Entry, exception_of, TakenIn, after, correction_of}
@@ -24,7 +23,7 @@ nested s (e ∷ es) = (returned (nested (after s e) es) (correction_of s e)).sta
 -- each return answers 0
 abbrev pub AllReturn : Guest → List Entry → Type 0
 AllReturn s [] = Unit {0}
-AllReturn s (e ∷ es) = AllReturn (after s e) es × ((returned (nested (after s e) es) (correction_of s e)).answer ≡ Returned)
+AllReturn s (e ∷ es) = AllReturn (after s e) es × ((returned (nested (after s e) es) (correction_of s e)).answer ≡ Ok tt)
 
 abbrev pub exceptions : List Entry → List Exception
 exceptions [] = []

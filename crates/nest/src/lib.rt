@@ -6,28 +6,30 @@ ghost use Rattle.std.specs.Prelude.{◌≡◌};
 ghost use Rattle.nest.specs.Back.{answer_number, GoingBack};
 
 use exception::Guest;
-use guest::Injection;
+use guest::{Injection, InjectionRefusal};
+use resume::ReturnRefusal;
 
-#[derive(Clone, Copy)]
-pub enum Answer {
-    // The injection's refusal.
-    Uninjected(guest::Answer),
-    // The injection was taken, and this is what the return answered.
-    Resumed(resume::Answer),
+// Why an injection and its return don't bring the first state back: what refuses the injection, or else the return.
+#[derive(Clone, Copy, PartialEq, Eq)]
+pub enum NestRefusal {
+    Injection(InjectionRefusal),
+    Return(ReturnRefusal),
 }
 
+// Kept: a refusal gives the state back beside the answer (`refused_untouched`, proofs/Backs.antt), so that `?` would lose it.
 #[derive(Clone, Copy)]
 pub struct Back {
-    pub answer: Answer,
+    pub answer: Result<(), NestRefusal>,
     pub state: Guest,
 }
 
-pub fn number(answer: Answer) -> u32
+pub fn number(answer: Result<(), NestRefusal>) -> u32
     ensures { result ≡ answer_number answer }
 {
     match answer {
-        Answer::Uninjected(refusal) => guest::number(refusal),
-        Answer::Resumed(returned) => resume::number(returned),
+        Ok(()) => 0,
+        Err(NestRefusal::Injection(refusal)) => guest::number(Err(refusal)),
+        Err(NestRefusal::Return(refusal)) => resume::number(Err(refusal)),
     }
 }
 
@@ -37,20 +39,16 @@ pub fn inject_and_resume(state: Guest, what: Injection) -> Back
     ensures { GoingBack state what result }
 {
     let done = guest::inject(state, what);
-    let answer = done.answer;
-    let after = done.state;
-    match answer {
-        guest::Answer::Accepted => {
-            let back = resume::resume(after, guest::correction(state, what));
-            let returned = back.answer;
-            let first = back.state;
+    match done.answer {
+        Ok(()) => {
+            let back = resume::resume(done.state, guest::correction(state, what));
             Back {
-                answer: Answer::Resumed(returned),
-                state: first,
+                answer: back.answer.map_err(|refusal| NestRefusal::Return(refusal)),
+                state: back.state,
             }
         }
-        refusal => Back {
-            answer: Answer::Uninjected(refusal),
+        Err(refusal) => Back {
+            answer: Err(NestRefusal::Injection(refusal)),
             state,
         },
     }

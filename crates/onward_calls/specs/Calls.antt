@@ -1,15 +1,16 @@
 -- What each call answers: the call by value on the state that the lent words hold, and what it hands out.
-use Rattle.std.specs.Prelude.{ℕ, ◌≡◌, List, [], ◌∷◌}
+use Rattle.std.specs.Prelude.{ℕ, Result, Ok, Err, ◌≡◌, List, [], ◌∷◌}
 use Rattle.record.specs.declared.kinds.Record.{Record}
+use Rattle.step.specs.declared.refusal.OnwardRefusal.{OnwardRefusal}
 use Rattle.step.specs.Over.{step_number, stepped_over}
 use Rattle.device.specs.Answer.{access_number}
 use Rattle.device.specs.Finish as device
-use Rattle.device.specs.declared.answer.Answer.{Answer as Access}
-use Rattle.device.specs.declared.answer.Answer.TheVariants as access
+use Rattle.device.specs.declared.answer.Moved.{Moved as Access}
+use Rattle.device.specs.declared.answer.Moved.TheVariants as access
 use Rattle.coprocessor.specs.Answer.{transfer_number}
 use Rattle.coprocessor.specs.Finish as coprocessor
-use Rattle.coprocessor.specs.declared.answer.Answer.{Answer as Transfer}
-use Rattle.coprocessor.specs.declared.answer.Answer.TheVariants as transfer
+use Rattle.coprocessor.specs.declared.answer.Moved.{Moved as Transfer}
+use Rattle.coprocessor.specs.declared.answer.Moved.TheVariants as transfer
 use Rattle.state_words.specs.Words.{state_of}
 use Rattle.state_words.specs.Lent.{Lent}
 
@@ -17,33 +18,27 @@ abbrev pub Stepping : List ℕ → Record → ℕ → List ℕ → Type 0
 Stepping w r = Lent w (step_number (stepped_over (state_of w) r).answer) (stepped_over (state_of w) r).state
 
 -- what a store gives the device; a load and a refusal give nothing
-abbrev pub stored_in : Access → ℕ
-stored_in access.Loaded = 0
-stored_in (access.Stored value) = value
-stored_in access.NoEdition = 0
-stored_in access.UnsoundStatus = 0
-stored_in access.NotDescribed = 0
+abbrev pub stored_in : Result Access OnwardRefusal → ℕ
+stored_in (Ok access.Loaded) = 0
+stored_in (Ok (access.Stored value)) = value
+stored_in (Err refusal) = 0
 
 pub record Finishing (w : List ℕ) (r : Record) (value n : ℕ) (w' : List ℕ) (out : ℕ) : Type 0 where
   pub lent : Lent w (access_number (device.finished (state_of w) r value).answer) (device.finished (state_of w) r value).state n w'
   pub given : out ≡ stored_in (device.finished (state_of w) r value).answer
 
 -- what a write hands out of Rt and Rt2; a read and a refusal hand out nothing
-abbrev pub first_in : Transfer → ℕ
-first_in transfer.Read = 0
-first_in (transfer.Written value) = value
-first_in (transfer.WrittenTwo first second) = first
-first_in transfer.NoEdition = 0
-first_in transfer.UnsoundStatus = 0
-first_in transfer.NoTransfer = 0
+abbrev pub first_in : Result Transfer OnwardRefusal → ℕ
+first_in (Ok transfer.Read) = 0
+first_in (Ok (transfer.Written value)) = value
+first_in (Ok (transfer.WrittenTwo first second)) = first
+first_in (Err refusal) = 0
 
-abbrev pub second_in : Transfer → ℕ
-second_in transfer.Read = 0
-second_in (transfer.Written value) = 0
-second_in (transfer.WrittenTwo first second) = second
-second_in transfer.NoEdition = 0
-second_in transfer.UnsoundStatus = 0
-second_in transfer.NoTransfer = 0
+abbrev pub second_in : Result Transfer OnwardRefusal → ℕ
+second_in (Ok transfer.Read) = 0
+second_in (Ok (transfer.Written value)) = 0
+second_in (Ok (transfer.WrittenTwo first second)) = second
+second_in (Err refusal) = 0
 
 pub record Transferring (w : List ℕ) (r : Record) (first second n : ℕ) (w' out : List ℕ) : Type 0 where
   pub lent : Lent w (transfer_number (coprocessor.finished (state_of w) r first second).answer)

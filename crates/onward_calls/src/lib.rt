@@ -10,6 +10,7 @@ ghost use Rattle.onward_calls.specs.Calls.{Stepping, stored_in, Finishing, first
 
 use record_of_words::record_of;
 use state_words::{state_of, words_of};
+use step::OnwardRefusal;
 
 // Whether a trapped instruction counts.
 pub fn knucklepin_passes(status: u32, syndrome: &[u32; 16]) -> u32
@@ -24,22 +25,17 @@ pub fn knucklepin_step_over(state: &mut [u32; 48], syndrome: &[u32; 16]) -> u32
 {
     let words = *state;
     let over = step::step_over(state_of(words), record_of(*syndrome));
-    let answer = over.answer;
-    let after = over.state;
-    *state = words_of(words, after);
-    step::number(answer)
+    *state = words_of(words, over.state);
+    step::number(over.answer)
 }
 
 // What a store gives the device.
-fn stored_in(answer: device::Answer) -> u32
+fn stored_in(answer: Result<device::Moved, OnwardRefusal>) -> u32
     ensures { result ≡ stored_in answer }
 {
     match answer {
-        device::Answer::Loaded => 0,
-        device::Answer::Stored(value) => value,
-        device::Answer::NoEdition => 0,
-        device::Answer::UnsoundStatus => 0,
-        device::Answer::NotDescribed => 0,
+        Ok(device::Moved::Stored(value)) => value,
+        _ => 0,
     }
 }
 
@@ -54,37 +50,29 @@ pub fn knucklepin_finish(
 {
     let words = *state;
     let done = device::finish(state_of(words), record_of(*syndrome), value);
-    let answer = done.answer;
-    let after = done.state;
-    *state = words_of(words, after);
-    *given = stored_in(answer);
-    device::number(answer)
+    *state = words_of(words, done.state);
+    *given = stored_in(done.answer);
+    device::number(done.answer)
 }
 
 // What Rt, and what Rt2, holds that is written.
-fn first_in(answer: coprocessor::Answer) -> u32
+// Kept: two functions, as specs/Calls.antt has two definitions, first_in and second_in, and documents name both.
+fn first_in(answer: Result<coprocessor::Moved, OnwardRefusal>) -> u32
     ensures { result ≡ first_in answer }
 {
     match answer {
-        coprocessor::Answer::Read => 0,
-        coprocessor::Answer::Written(value) => value,
-        coprocessor::Answer::WrittenTwo(first, _) => first,
-        coprocessor::Answer::NoEdition => 0,
-        coprocessor::Answer::UnsoundStatus => 0,
-        coprocessor::Answer::NoTransfer => 0,
+        Ok(coprocessor::Moved::Written(value)) => value,
+        Ok(coprocessor::Moved::WrittenTwo(first, _)) => first,
+        _ => 0,
     }
 }
 
-fn second_in(answer: coprocessor::Answer) -> u32
+fn second_in(answer: Result<coprocessor::Moved, OnwardRefusal>) -> u32
     ensures { result ≡ second_in answer }
 {
     match answer {
-        coprocessor::Answer::Read => 0,
-        coprocessor::Answer::Written(_) => 0,
-        coprocessor::Answer::WrittenTwo(_, second) => second,
-        coprocessor::Answer::NoEdition => 0,
-        coprocessor::Answer::UnsoundStatus => 0,
-        coprocessor::Answer::NoTransfer => 0,
+        Ok(coprocessor::Moved::WrittenTwo(_, second)) => second,
+        _ => 0,
     }
 }
 
@@ -100,9 +88,7 @@ pub fn knucklepin_coprocessor_finish(
 {
     let words = *state;
     let done = coprocessor::finish(state_of(words), record_of(*syndrome), first, second);
-    let answer = done.answer;
-    let after = done.state;
-    *state = words_of(words, after);
-    *given = [first_in(answer), second_in(answer)];
-    coprocessor::number(answer)
+    *state = words_of(words, done.state);
+    *given = [first_in(done.answer), second_in(done.answer)];
+    coprocessor::number(done.answer)
 }

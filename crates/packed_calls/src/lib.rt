@@ -7,17 +7,16 @@ ghost use Rattle.packed_calls.specs.Packed.{packed_refusal, packed_read, rewritt
 ghost use Rattle.packed_calls.specs.Short.{packed_short_read, rewritten_short};
 ghost use Rattle.packed_calls.specs.A32.{a32_form, rewritten_a32};
 
-use a32_rule::{Decoded, Encoded};
 use a32_words::form_number;
 use edition::Refusal;
 use record::Origin;
 use registers::{Esr, Hsr};
-use syndrome::{Read, Written};
 
 // What a call answers in place of a word that it refuses: no word that is written has its upper half set.
 const REFUSED: u64 = 0xFFFF_FFFF_FFFF_FFFF;
 
 // A refusal as one number: its own number, from bit 8 its mask, from bit 24 its number of ones.
+// Kept: the C interface hands a refusal out so.
 fn packed(refusal: Refusal) -> u64
     ensures { result ≡ packed_refusal refusal }
 {
@@ -30,23 +29,16 @@ fn packed(refusal: Refusal) -> u64
 fn read(origin: Origin, edition: u32, word: u64) -> u64
     ensures { result ≡ packed_read origin edition word }
 {
-    match syndrome::read(origin, edition, Esr(word)) {
-        Read::Taken(_) => 0,
-        Read::Refused(refusal) => packed(refusal),
-    }
+    syndrome::read(origin, edition, Esr(word)).map_or_else(packed, |_| 0)
 }
 
 // What reading a syndrome word in one edition and writing the record in another gives: the word, or all ones where either refuses.
 fn rewrite(origin: Origin, reader: u32, writer: u32, word: u64) -> u64
     ensures { result ≡ rewritten origin reader writer word }
 {
-    match syndrome::read(origin, reader, Esr(word)) {
-        Read::Taken(r) => match syndrome::write(origin, writer, r) {
-            Written::Word(esr) => esr.0,
-            Written::Refused(_) => REFUSED,
-        },
-        Read::Refused(_) => REFUSED,
-    }
+    syndrome::read(origin, reader, Esr(word))
+        .and_then(|r| syndrome::write(origin, writer, r))
+        .map_or(REFUSED, |esr| esr.0)
 }
 
 // Reads a syndrome word of a trap from AArch32.
@@ -81,23 +73,16 @@ pub fn knucklepin_aarch64_rewrite(reader: u32, writer: u32, word: u64) -> u64
 pub fn knucklepin_short_read(edition: u32, word: u32) -> u64
     ensures { result ≡ packed_short_read edition word }
 {
-    match short::read(edition, Hsr(word)) {
-        short::Read::Taken(_) => 0,
-        short::Read::Refused(refusal) => packed(refusal),
-    }
+    short::read(edition, Hsr(word)).map_or_else(packed, |_| 0)
 }
 
 // Reads a word of the short form in one edition and writes the record in another: the word, or all ones where either refuses.
 pub fn knucklepin_short_rewrite(reader: u32, writer: u32, word: u32) -> u64
     ensures { result ≡ rewritten_short reader writer word }
 {
-    match short::read(reader, Hsr(word)) {
-        short::Read::Taken(r) => match short::write(writer, r) {
-            short::Written::Word(hsr) => hsr.0 as u64,
-            short::Written::Refused(_) => REFUSED,
-        },
-        short::Read::Refused(_) => REFUSED,
-    }
+    short::read(reader, Hsr(word))
+        .and_then(|r| short::write(writer, r))
+        .map_or(REFUSED, |hsr| hsr.0 as u64)
 }
 
 // The form of a word that is an A32 load or store: its transfer's number, and 16 more with a register, 32 for a literal; 48 for STM and 49
@@ -105,21 +90,14 @@ pub fn knucklepin_short_rewrite(reader: u32, writer: u32, word: u32) -> u64
 pub fn knucklepin_a32_form(word: u32) -> u64
     ensures { result ≡ a32_form word }
 {
-    match a32_rule::decode(word) {
-        Decoded::Taken(f) => form_number(f) as u64,
-        Decoded::Refused => REFUSED,
-    }
+    a32_rule::decode(word).map_or(REFUSED, |f| form_number(f) as u64)
 }
 
 // Reads an A32 load or store and writes its fields: the word, or all ones where either refuses.
 pub fn knucklepin_a32_rewrite(word: u32) -> u64
     ensures { result ≡ rewritten_a32 word }
 {
-    match a32_rule::decode(word) {
-        Decoded::Taken(f) => match a32_rule::encode(f) {
-            Encoded::Word(instruction) => instruction as u64,
-            Encoded::Refused => REFUSED,
-        },
-        Decoded::Refused => REFUSED,
-    }
+    a32_rule::decode(word)
+        .and_then(|f| a32_rule::encode(f))
+        .map_or(REFUSED, |instruction| instruction as u64)
 }

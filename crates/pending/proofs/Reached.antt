@@ -8,8 +8,7 @@ use Rattle.bits.proofs.Booleans.{and_left, and_right}
 use Rattle.pending.specs.declared.Kind.{Kind}
 use Rattle.pending.specs.declared.Queue.{Queue}
 use Rattle.pending.specs.declared.Queue.TheVariants.{Empty}
-use Rattle.pending.specs.declared.Choice.{Choice}
-use Rattle.pending.specs.declared.Choice.TheVariants.{Nothing, Oldest}
+use Rattle.std.specs.Prelude.{Option, Some, None}
 use Rattle.pending.specs.Plain.{same, waits, distinct_kinds, chosen}
 use Rattle.pending.specs.Reading.{list_of, choice_of}
 use Rattle.pending.specs.Step.{Delivery, refused, nothing, delivered, taken}
@@ -67,11 +66,11 @@ module _ {S : Type 0} (d : Delivery S) where
   promised q (raise k) = let r = raise_queue q k in (raising k, r.0, r.1, refl)
   promised q (deliver s) = by (taken d s) refl (choice (d.mask s) q)
     where
-      chosen_one : taken d s ≡ true → (c : Choice) → choice_of c ≡ chosen (d.mask s) (list_of q) → Kept q (deliver s)
-      chosen_one t Nothing e = (delivering s nothing s, q, sym (step_taken d (list_of q) s t (sym e)), refl)
-      chosen_one t (Oldest k r) e = (delivering s (delivered k) (d.injected s k), r, sym (step_taken d (list_of q) s t (sym e)), refl)
+      chosen_one : taken d s ≡ true → (c : Option (Kind × Queue)) → choice_of c ≡ chosen (d.mask s) (list_of q) → Kept q (deliver s)
+      chosen_one t None e = (delivering s nothing s, q, sym (step_taken d (list_of q) s t (sym e)), refl)
+      chosen_one t (Some (k, r)) e = (delivering s (delivered k) (d.injected s k), r, sym (step_taken d (list_of q) s t (sym e)), refl)
 
-      by : (b : Bool) → taken d s ≡ b → (c : Choice) × (choice_of c ≡ chosen (d.mask s) (list_of q)) → Kept q (deliver s)
+      by : (b : Bool) → taken d s ≡ b → (c : Option (Kind × Queue)) × (choice_of c ≡ chosen (d.mask s) (list_of q)) → Kept q (deliver s)
       by true t c = chosen_one t c.0 c.1
       by false f c = (delivering s (refused (d.refusal s)) s, q, sym (step_refused d (list_of q) s f), refl)
 

@@ -1,12 +1,10 @@
 -- A value of the code read as a plain queue: its list, the oldest first.
-use Rattle.std.specs.Prelude.{Bool, true, false, not, List, [], ◌∷◌}
+use Rattle.std.specs.Prelude.{Bool, true, false, not, List, [], ◌∷◌, Option, Some, None}
 use Rattle.pending.specs.declared.Kind.{Kind}
 use Rattle.pending.specs.declared.Kind.TheVariants.{Abort, Fiq, Irq}
 use Rattle.pending.specs.declared.Queue.{Queue}
 use Rattle.pending.specs.declared.Queue.TheVariants.{Empty, One, Two, Three}
 use Rattle.pending.specs.declared.Masks.{Masks}
-use Rattle.pending.specs.declared.Choice.{Choice}
-use Rattle.pending.specs.declared.Choice.TheVariants.{Nothing, Oldest}
 use Rattle.pending.specs.Plain.{Chosen, none, oldest}
 
 -- the two neighbours of a kind in the round abort, FIQ, IRQ: the one after it, and the one before it
@@ -30,6 +28,6 @@ mask_in m Abort = m.a
 mask_in m Fiq = m.f
 mask_in m Irq = m.i
 
-abbrev pub choice_of : Choice → Chosen
-choice_of Nothing = none
-choice_of (Oldest k left) = oldest k (list_of left)
+abbrev pub choice_of : Option (Kind × Queue) → Chosen
+choice_of None = none
+choice_of (Some (k, left)) = oldest k (list_of left)

@@ -1,12 +1,12 @@
 // Interrupts that wait for a guest: the queue of them, which knows nothing of the guest's state.
 #![tactic(auto)]
 
-ghost use Rattle.std.specs.Prelude.{◌≡◌, cond, []};
-ghost use Rattle.pending.specs.Plain.{code_of, same, raised, oldest, chosen};
+ghost use Rattle.std.specs.Prelude.{◌≡◌, cond, [], Some, None};
+ghost use Rattle.pending.specs.Plain.{raised, chosen};
 ghost use Rattle.pending.specs.Reading.{neighbour, list_of, mask_in, choice_of};
 
 // What may wait.
-#[derive(Clone, Copy)]
+#[derive(Clone, Copy, PartialEq, Eq)]
 pub enum Kind {
     Abort,
     Fiq,
@@ -15,6 +15,7 @@ pub enum Kind {
 
 // The kinds that wait, the oldest first. Each of the three kinds has two neighbours in the round abort, FIQ, IRQ, so that no value
 // of this type has a kind twice.
+// Kept: no heap, and no value has a kind twice (`no_repeats`, `one_queue`, proofs/Queues.antt), as one of a list of kinds may.
 #[derive(Clone, Copy)]
 pub enum Queue {
     Empty,
@@ -33,35 +34,10 @@ pub struct Masks {
     pub i: bool,
 }
 
-// What a delivery step finds.
-#[derive(Clone, Copy)]
-pub enum Choice {
-    Nothing,
-    // What is delivered, and the queue that it leaves.
-    Oldest(Kind, Queue),
-}
-
 pub fn empty() -> Queue
     ensures { list_of result ≡ [] }
 {
     Queue::Empty
-}
-
-// A number for each kind.
-fn code(kind: Kind) -> u32
-    ensures { result ≡ code_of kind }
-{
-    match kind {
-        Kind::Abort => 0,
-        Kind::Fiq => 1,
-        Kind::Irq => 2,
-    }
-}
-
-fn same(a: Kind, b: Kind) -> bool
-    ensures { result ≡ same a b }
-{
-    code(a) == code(b)
 }
 
 // The one after a kind in the round, or the one before it.
@@ -82,15 +58,15 @@ pub fn raise(queue: Queue, kind: Kind) -> Queue
     match queue {
         Queue::Empty => Queue::One(kind),
         Queue::One(a) => {
-            if same(kind, a) {
+            if kind == a {
                 Queue::One(a)
             } else {
-                Queue::Two(a, same(kind, neighbour(a, true)))
+                Queue::Two(a, kind == neighbour(a, true))
             }
         }
         Queue::Two(a, after) => {
             let b = neighbour(a, after);
-            if same(kind, a) | same(kind, b) {
+            if (kind == a) | (kind == b) {
                 Queue::Two(a, after)
             } else {
                 Queue::Three(a, after)
@@ -112,34 +88,37 @@ fn mask_in(masks: Masks, kind: Kind) -> bool
 }
 
 // The kind with the queue that it leaves, where its mask bit is 0.
-fn open_or(masks: Masks, kind: Kind, left: Queue, otherwise: Choice) -> Choice
-    ensures { choice_of result ≡ cond (mask_in masks kind) (choice_of otherwise) (oldest kind (list_of left)) }
+fn opened(masks: Masks, kind: Kind, left: Queue) -> Option<(Kind, Queue)>
+    ensures { result ≡ cond (mask_in masks kind) None (Some (kind, left)) }
 {
     if mask_in(masks, kind) {
-        otherwise
+        None
     } else {
-        Choice::Oldest(kind, left)
+        Some((kind, left))
     }
 }
 
 // The oldest whose mask bit is 0, with the queue that it leaves.
-pub fn next(queue: Queue, masks: Masks) -> Choice
+#[tactic(auto, using(crate::proofs::Choices::one_chosen))]
+pub fn next(queue: Queue, masks: Masks) -> Option<(Kind, Queue)>
     ensures { choice_of result ≡ chosen (mask_in masks) (list_of queue) }
 {
     match queue {
-        Queue::Empty => Choice::Nothing,
-        Queue::One(a) => open_or(masks, a, Queue::Empty, Choice::Nothing),
+        Queue::Empty => None,
+        Queue::One(a) => opened(masks, a, Queue::Empty),
         Queue::Two(a, after) => {
             let b = neighbour(a, after);
-            let second = open_or(masks, b, Queue::One(a), Choice::Nothing);
-            open_or(masks, a, Queue::One(b), second)
+            let first = opened(masks, a, Queue::One(b));
+            let second = opened(masks, b, Queue::One(a));
+            first.or(second)
         }
         Queue::Three(a, after) => {
             let b = neighbour(a, after);
             let c = neighbour(a, !after);
-            let third = open_or(masks, c, Queue::Two(a, after), Choice::Nothing);
-            let second = open_or(masks, b, Queue::Two(a, !after), third);
-            open_or(masks, a, Queue::Two(b, after), second)
+            let first = opened(masks, a, Queue::Two(b, after));
+            let second = opened(masks, b, Queue::Two(a, !after));
+            let third = opened(masks, c, Queue::Two(a, after));
+            first.or(second).or(third)
         }
     }
 }

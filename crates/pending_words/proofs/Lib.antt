@@ -1,2 +1,3 @@
 -- Laws that other crates cite.
 pub mod RoundTrip
+pub mod Numbers

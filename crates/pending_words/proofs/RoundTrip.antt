@@ -2,20 +2,12 @@
 -- Assumes nothing.
 use mathlib.Core.Path.{◌≡◌, refl}
 use mathlib.Core.Bool.{true, false}
-use Prim.Native.Nat.{ℕ, ◌≤◌}
-use lib.Dec.{lit≤}
-use Rattle.pending.specs.declared.Kind.{Kind}
 use Rattle.pending.specs.declared.Kind.TheVariants.{Abort, Fiq, Irq}
 use Rattle.pending.specs.declared.Queue.{Queue}
 use Rattle.pending.specs.declared.Queue.TheVariants.{Empty, One, Two, Three}
 use Rattle.pending.specs.Plain.{raised}
 use Rattle.pending.specs.Reading.{list_of}
-use Rattle.pending_words.specs.Number.{kind_number, queue_number, raised_by, waiting_from, waiting_in}
-
-pub kind_small : (k : Kind) → kind_number k ≤ 3
-kind_small Abort = lit≤ tt
-kind_small Fiq = lit≤ tt
-kind_small Irq = lit≤ tt
+use Rattle.pending_words.specs.Number.{queue_number, raised_by, waiting_from, waiting_in}
 
 -- of each of the sixteen queues that there are
 pub waiting_back : (q : Queue) → waiting_in (queue_number (list_of q)) ≡ list_of q

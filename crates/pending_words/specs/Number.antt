@@ -1,6 +1,6 @@
 -- A queue as a number (02, C-19, for callers without lists): two bits for each kind that waits, the oldest in the lowest, and zeros above
 -- the youngest.
-use Rattle.std.specs.Prelude.{ℕ, zero, suc, ◌+◌, ◌*◌, ◌/◌, ◌%◌, cond, List, [], ◌∷◌, eqb}
+use Rattle.std.specs.Prelude.{ℕ, zero, suc, ◌+◌, ◌*◌, ◌/◌, ◌%◌, cond, List, [], ◌∷◌, eqb, Option, Some, None}
 use Rattle.pending.specs.declared.Kind.{Kind}
 use Rattle.pending.specs.declared.Kind.TheVariants.{Abort, Fiq, Irq}
 use Rattle.pending.specs.Plain.{raised}
@@ -9,6 +9,10 @@ abbrev pub kind_number : Kind → ℕ
 kind_number Abort = 1
 kind_number Fiq = 2
 kind_number Irq = 3
+
+-- a number's kind, where it has one
+unfoldable pub kind_of : ℕ → Option Kind
+kind_of n = cond (eqb n 1) (Some Abort) (cond (eqb n 2) (Some Fiq) (cond (eqb n 3) (Some Irq) None))
 
 abbrev pub queue_number : List Kind → ℕ
 queue_number [] = 0

@@ -5,7 +5,7 @@
 ghost use Rattle.std.specs.Prelude.{◌≡◌};
 ghost use Rattle.pending.specs.declared.Queue.{Queue};
 ghost use Rattle.pending.specs.Reading.{list_of};
-ghost use Rattle.pending_words.specs.Number.{kind_number, queue_number, raised_by, waiting_from, waiting_in};
+ghost use Rattle.pending_words.specs.Number.{kind_number, kind_of, queue_number, raised_by, waiting_from, waiting_in};
 
 use pending::{Kind, Queue, empty, neighbour, raise};
 
@@ -17,6 +17,19 @@ pub fn kind_number(kind: Kind) -> u32
         Kind::Abort => 1,
         Kind::Fiq => 2,
         Kind::Irq => 3,
+    }
+}
+
+// The kind of a number.
+#[tactic(auto, unfolding(crate::specs::Number::kind_of))]
+pub fn kind_of(number: u32) -> Option<Kind>
+    ensures { result ≡ kind_of number }
+{
+    match number {
+        1 => Some(Kind::Abort),
+        2 => Some(Kind::Fiq),
+        3 => Some(Kind::Irq),
+        _ => None,
     }
 }
 
@@ -46,14 +59,13 @@ pub fn number_of(queue: Queue) -> u32
 }
 
 // The queue after the kind of a number was raised. A number that is no kind's raises nothing.
+#[tactic(auto, using(crate::proofs::Numbers::raised_kind, crate::proofs::Numbers::raised_none))]
 pub fn raise_number(queue: Queue, kind: u32) -> Queue
     ensures { list_of result ≡ raised_by kind (list_of queue) }
 {
-    match kind {
-        1 => raise(queue, Kind::Abort),
-        2 => raise(queue, Kind::Fiq),
-        3 => raise(queue, Kind::Irq),
-        _ => queue,
+    match kind_of(kind) {
+        Some(kind) => raise(queue, kind),
+        None => queue,
     }
 }
 
@@ -63,11 +75,9 @@ pub fn queue_of(number: u32) -> Queue
 {
     let mut queue = empty();
     let mut left = number;
-    let mut pairs: u32 = 16;
-    while 0 < pairs {
+    for _pair in 0..16u32 {
         queue = raise_number(queue, left % 4);
         left = left / 4;
-        pairs -= 1;
     }
     queue
 }

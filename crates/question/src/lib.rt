@@ -1,16 +1,15 @@
 // A line of the program explain: an edition and a syndrome word, as trapread has it; the same with FAR and HPFAR behind it; or, after the
 // word `short`, a short edition and a word of 8 digits.
 //
-// `parse` reads a whole line. `start`, `feed` and `finish` read one of any length, a byte at a time.
+// `parse` reads a whole line. `finish` reads one of any length, which `line::start` and `line::feed` took a byte at a time.
 #![tactic(auto)]
 
 ghost use Rattle.std.specs.Prelude.{◌≡◌, length};
 ghost use Rattle.line.specs.Line.{line_of};
 ghost use Rattle.question.specs.Question.{word_from, trap_of, says_short, short_of, question_of};
-ghost use Rattle.question.specs.Feed.{started, fed, ended};
+ghost use Rattle.question.specs.Feed.{ended};
 
-use line::{Line, Word};
-use text::Digit;
+use line::State;
 
 // What a line asks.
 #[derive(Clone, Copy)]
@@ -29,43 +28,34 @@ pub enum Question {
         edition: u32,
         hsr: u32,
     },
-    None,
 }
 
-fn word(line: &[u8]) -> Question
+fn word(line: &[u8]) -> Option<Question>
     ensures { result ≡ word_from (line_of line.now) }
 {
-    match line::parse(line) {
-        Line::Question { edition, word } => Question::Word { edition, esr: word },
-        Line::NoLine => Question::None,
-    }
+    let line::Question { edition, word } = line::parse(line)?;
+    Some(Question::Word { edition, esr: word })
 }
 
-fn trap(line: &[u8]) -> Question
+fn trap(line: &[u8]) -> Option<Question>
     requires { length line.now ≡ 52 }
     ensures { result ≡ trap_of line.now }
 {
     if line[18] != b' ' {
-        return Question::None;
+        return None;
     }
     if line[35] != b' ' {
-        return Question::None;
+        return None;
     }
-    let Line::Question { edition, word } = line::parse(&line[0..18]) else {
-        return Question::None;
-    };
-    let Word::Value(far) = line::number(&line[19..35]) else {
-        return Question::None;
-    };
-    let Word::Value(hpfar) = line::number(&line[36..52]) else {
-        return Question::None;
-    };
-    Question::Trap {
+    let line::Question { edition, word } = line::parse(&line[0..18])?;
+    let far = line::number(&line[19..35])?;
+    let hpfar = line::number(&line[36..52])?;
+    Some(Question::Trap {
         edition,
         esr: word,
         far,
         hpfar,
-    }
+    })
 }
 
 // Whether a line begins as one of the short form does.
@@ -73,94 +63,46 @@ fn says_short(line: &[u8]) -> bool
     requires { length line.now ≡ 16 }
     ensures { result ≡ says_short line.now }
 {
-    (line[0] == b's')
-        & (line[1] == b'h')
-        & (line[2] == b'o')
-        & (line[3] == b'r')
-        & (line[4] == b't')
-        & (line[5] == b' ')
-        & (line[7] == b' ')
+    line.starts_with(b"short ") & (line[7] == b' ')
 }
 
-fn short(line: &[u8]) -> Question
+fn short(line: &[u8]) -> Option<Question>
     requires { length line.now ≡ 16 }
     ensures { result ≡ short_of line.now }
 {
     if !says_short(line) {
-        return Question::None;
+        return None;
     }
-    let Digit::Value(edition) = text::hex_digit(line[6]) else {
-        return Question::None;
-    };
-    let Word::Value(hsr) = line::number(&line[8..]) else {
-        return Question::None;
-    };
-    Question::Short {
+    let edition = text::hex_digit(line[6])?;
+    let hsr = line::number(&line[8..])?;
+    Some(Question::Short {
         edition,
         hsr: (hsr % 0x1_0000_0000) as u32,
-    }
+    })
 }
 
 // Reads a line, without its newline.
-pub fn parse(line: &[u8]) -> Question
+#[tactic(auto, unfolding(crate::specs::Question::question_of))]
+pub fn parse(line: &[u8]) -> Option<Question>
     ensures { result ≡ question_of line.now }
 {
-    let n = line.len();
-    if n == 18 {
-        return word(line);
+    match line.len() {
+        18 => word(line),
+        52 => trap(line),
+        16 => short(line),
+        _ => None,
     }
-    if n == 52 {
-        return trap(line);
-    }
-    if n == 16 {
-        return short(line);
-    }
-    Question::None
 }
 
 // The longest line.
-const LENGTH: usize = 52;
-
-// A line as far as it has come: its first bytes, and how many came, counted no further than one past the longest line.
-#[derive(Clone, Copy)]
-pub struct State {
-    pub bytes: [u8; 52],
-    pub count: usize,
-}
-
-pub fn start() -> State
-    ensures { result ≡ started }
-{
-    State {
-        bytes: [0; 52],
-        count: 0,
-    }
-}
-
-// One more byte of the line. A line that is too long stays so, whatever it goes on with.
-pub fn feed(state: State, byte: u8) -> State
-    ensures { result ≡ fed state byte }
-{
-    let mut next = state;
-    let count = next.count;
-    if count < LENGTH {
-        next.bytes[count] = byte;
-        next.count = count + 1;
-    } else {
-        next.count = LENGTH + 1;
-    }
-    next
-}
+pub const LENGTH: usize = 52;
 
 // What the line asks that came.
-pub fn finish(state: State) -> Question
+pub fn finish(state: State<LENGTH>) -> Option<Question>
     ensures { result ≡ ended state }
 {
-    let bytes = state.bytes;
-    let count = state.count;
-    if count <= LENGTH {
-        parse(&bytes[..count])
-    } else {
-        Question::None
+    if LENGTH < state.count {
+        return None;
     }
+    parse(&state.bytes[..state.count])
 }

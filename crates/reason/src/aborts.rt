@@ -19,47 +19,38 @@ pub fn unless(passes: bool, number: u32, rest: u32) -> u32
 fn some_code(code: u32) -> bool
     ensures { result ≡ some_code code }
 {
-    everywhere(code)
-        | with_lpa2(code)
-        | ((code == 0x18) | (0x1C <= code) & (code <= 0x1F))
-        | (code == 0x1B)
-        | (code == 0x31)
+    everywhere(code) | with_lpa2(code) | matches!(code, 0x18 | 0x1B..=0x1F | 0x31)
 }
 
 fn everywhere(code: u32) -> bool
     ensures { result ≡ everywhere code }
 {
-    (code <= 0x07)
-        | (0x09 <= code) & (code <= 0x0B)
-        | (0x0D <= code) & (code <= 0x0F)
-        | (code == 0x10)
-        | (0x14 <= code) & (code <= 0x17)
-        | (code == 0x30)
+    matches!(code, 0x00..=0x07 | 0x09..=0x0B | 0x0D..=0x10 | 0x14..=0x17 | 0x30)
 }
 
 fn with_lpa2(code: u32) -> bool
     ensures { result ≡ with_lpa2 code }
 {
-    (code == 0x08) | (code == 0x0C) | (code == 0x13) | (code == 0x29) | (code == 0x2B)
+    matches!(code, 0x08 | 0x0C | 0x13 | 0x29 | 0x2B)
 }
 
 // A code that data aborts alone have.
 fn data_only(code: u32) -> bool
     ensures { result ≡ data_only_code code }
 {
-    (code == 0x21) | (code == 0x34) | (code == 0x35)
+    matches!(code, 0x21 | 0x34 | 0x35)
 }
 
 fn some_set(set: u32, code: u32) -> bool
     ensures { result ≡ some_set set code }
 {
-    (set == 0) | (code == 0x10) & ((set == 2) | (set == 3))
+    (set == 0) | (code == 0x10) & matches!(set, 2 | 3)
 }
 
 pub fn some_syndrome(isv: bool, code: u32) -> bool
     ensures { result ≡ some_syndrome isv code }
 {
-    !isv | (iss::mmu_fault(code) | (0x13 <= code) & (code <= 0x17))
+    !isv | iss::mmu_fault(code) | matches!(code, 0x13..=0x17)
 }
 
 // What both aborts ask.

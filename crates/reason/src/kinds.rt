@@ -57,7 +57,7 @@ fn serror(r: SError) -> u32
     ensures { result ≡ decide (rule_tests (Record.SError r)) 0 }
 {
     unless(
-        (r.code == 0) & (r.aet == 0) & !r.ea | (r.code == 0x11) & ((r.aet <= 3) | (r.aet == 6)),
+        (r.code == 0) & (r.aet == 0) & !r.ea | (r.code == 0x11) & matches!(r.aet, 0..=3 | 6),
         16,
         0,
     )

@@ -15,10 +15,11 @@ pub mod kinds;
 fn debug_exception(class: u32) -> bool
     ensures { result ≡ among debug_exceptions class }
 {
-    (class == 0x30) | (class == 0x32) | (class == 0x34) | (class == 0x3A)
+    matches!(class, 0x30 | 0x32 | 0x34 | 0x3A)
 }
 
 // The first rule that a word breaks.
+// Kept: a number and no enum, by the clause why_of; names' list of reasons has each rule's words at it.
 pub fn why(esr: Esr) -> u32
     ensures { result ≡ why_of esr.0 }
 {

@@ -6,92 +6,64 @@ ghost use Rattle.record.specs.Class.{is_class, plain_classes, mcr_classes, mcrr_
 ghost use Rattle.record.specs.Class.{debug_classes, without_isv, head_of};
 
 use super::kinds::{Head, Record};
-use super::origin::{Origin, from_aarch64};
-use bits::bit;
-
-// The classes from each origin: bit n is 1 where class n is in the build.
-const AARCH32_CLASSES: u64 = 1 << 0x00
-    | 1 << 0x01
-    | 1 << 0x03
-    | 1 << 0x04
-    | 1 << 0x05
-    | 1 << 0x06
-    | 1 << 0x07
-    | 1 << 0x08
-    | 1 << 0x0C
-    | 1 << 0x0E
-    | 1 << 0x11
-    | 1 << 0x12
-    | 1 << 0x13
-    | 1 << 0x20
-    | 1 << 0x22
-    | 1 << 0x24
-    | 1 << 0x2F
-    | 1 << 0x30
-    | 1 << 0x32
-    | 1 << 0x34
-    | 1 << 0x38
-    | 1 << 0x3A;
-
-const AARCH64_CLASSES: u64 = 1 << 0x00
-    | 1 << 0x01
-    | 1 << 0x07
-    | 1 << 0x0E
-    | 1 << 0x15
-    | 1 << 0x16
-    | 1 << 0x17
-    | 1 << 0x18
-    | 1 << 0x20
-    | 1 << 0x22
-    | 1 << 0x24
-    | 1 << 0x2F
-    | 1 << 0x30
-    | 1 << 0x32
-    | 1 << 0x34;
+use super::origin::Origin;
 
 pub fn plain_class(class: u32) -> bool
     ensures { result ≡ among plain_classes class }
 {
-    (class == 0x00) | (class == 0x0E) | (class == 0x22)
+    matches!(class, 0x00 | 0x0E | 0x22)
 }
 
 pub fn mcr_class(class: u32) -> bool
     ensures { result ≡ among mcr_classes class }
 {
-    (class == 0x03) | (class == 0x05) | (class == 0x08)
+    matches!(class, 0x03 | 0x05 | 0x08)
 }
 
 pub fn mcrr_class(class: u32) -> bool
     ensures { result ≡ among mcrr_classes class }
 {
-    (class == 0x04) | (class == 0x0C)
+    matches!(class, 0x04 | 0x0C)
 }
 
 fn call_class(class: u32) -> bool
     ensures { result ≡ among call_classes class }
 {
-    (class == 0x11)
-        | (class == 0x12)
-        | (class == 0x15)
-        | (class == 0x16)
-        | (class == 0x17)
-        | (class == 0x38)
+    matches!(class, 0x11 | 0x12 | 0x15 | 0x16 | 0x17 | 0x38)
 }
 
 fn debug_class(class: u32) -> bool
     ensures { result ≡ among debug_classes class }
 {
-    (class == 0x30) | (class == 0x3A)
+    matches!(class, 0x30 | 0x3A)
 }
 
 // Whether the class is among those of the trap's origin.
 pub fn is_class(origin: Origin, class: u32) -> bool
     ensures { result ≡ is_class origin class }
 {
-    if from_aarch64(origin) {
-        bit(AARCH64_CLASSES, class)
-    } else {
-        bit(AARCH32_CLASSES, class)
+    match origin {
+        Origin::AArch32 => matches!(
+            class,
+            0x00 | 0x01
+                | 0x03..=0x08
+                | 0x0C
+                | 0x0E
+                | 0x11..=0x13
+                | 0x20
+                | 0x22
+                | 0x24
+                | 0x2F
+                | 0x30
+                | 0x32
+                | 0x34
+                | 0x38
+                | 0x3A
+        ),
+        Origin::AArch64 => matches!(
+            class,
+            0x00 | 0x01 | 0x07 | 0x0E | 0x15..=0x18 | 0x20 | 0x22 | 0x24 | 0x2F | 0x30 | 0x32 | 0x34
+        ),
     }
 }
 

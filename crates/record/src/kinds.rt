@@ -1,5 +1,6 @@
 // The records: what a syndrome word says, by kind of exception. A record can hold what no word has, as a register number
 // of 40 or IL 0 at an abort, so that the writer can refuse it.
+// Kept: CV beside COND, and ISV beside its fields, are no Option: a word holds both, and comes back whole (read_as_written).
 
 // Classes 0x00, 0x0E and 0x22: the class says all.
 #[derive(Clone, Copy)]
@@ -114,6 +115,7 @@ pub struct DataAbort {
     pub code: u32,
 }
 
+// Kept: the fields are Plain's, but its word has a fault code, and one type for both would let one stand for the other.
 // Classes 0x30 and 0x3A: a breakpoint or a vector catch. The fault code is that of a debug exception, here and in the two kinds below, and
 // is no field.
 #[derive(Clone, Copy)]
@@ -201,10 +203,10 @@ pub enum Sort {
     SError(SError),
 }
 
-// What the address registers tell: nothing; FAR, the virtual address; or what an abort's FnV, S1PTW and fault code say of FAR and HPFAR.
+// What the address registers tell, where they tell anything: FAR, the virtual address; or what an abort's FnV, S1PTW and fault code say of
+// FAR and HPFAR.
 #[derive(Clone, Copy)]
 pub enum Addresses {
-    None,
     Virtual,
     Abort { fnv: bool, s1ptw: bool, code: u32 },
 }

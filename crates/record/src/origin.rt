@@ -13,8 +13,5 @@ pub enum Origin {
 pub fn from_aarch64(origin: Origin) -> bool
     ensures { result ≡ from_aarch64 origin }
 {
-    match origin {
-        Origin::AArch32 => false,
-        Origin::AArch64 => true,
-    }
+    matches!(origin, Origin::AArch64)
 }

@@ -199,6 +199,7 @@ fn system_at(word: u64) -> System
 }
 
 // The record at a word's bits, by the layout of a class. A class with no layout reads as one without fields, which its kind lacks.
+#[tactic(auto, unfolding(crate::specs::Split::record_of))]
 fn record_of(class: u32, word: u64) -> Record
     ensures { result ≡ record_of class word }
 {

@@ -35,22 +35,22 @@ pub fn sort(r: Record) -> Sort
 }
 
 // Only an abort, a PC alignment fault, class 0x22, and a watchpoint, class 0x34, have an address.
-pub fn addresses(r: Record) -> Addresses
+pub fn addresses(r: Record) -> Option<Addresses>
     ensures { result ≡ addresses_of r }
 {
     match sort(r) {
-        Sort::Plain => Addresses::None,
-        Sort::Addressed => Addresses::Virtual,
-        Sort::InstructionAbort(x) => Addresses::Abort {
+        Sort::Plain => None,
+        Sort::Addressed => Some(Addresses::Virtual),
+        Sort::InstructionAbort(x) => Some(Addresses::Abort {
             fnv: x.fnv,
             s1ptw: x.s1ptw,
             code: x.code,
-        },
-        Sort::DataAbort(x) => Addresses::Abort {
+        }),
+        Sort::DataAbort(x) => Some(Addresses::Abort {
             fnv: x.fnv,
             s1ptw: x.s1ptw,
             code: x.code,
-        },
-        Sort::SError(_) => Addresses::None,
+        }),
+        Sort::SError(_) => None,
     }
 }

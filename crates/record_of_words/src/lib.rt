@@ -12,6 +12,7 @@ use record::{
 };
 use record_words::words_of;
 
+// Kept: each kind of record has its own fields, by name at their places; no two of these functions make the same struct.
 pub fn plain_in(words: [u32; 16]) -> Plain
     ensures { result ≡ plain_in words }
 {
@@ -211,6 +212,8 @@ fn no_record() -> Record
 }
 
 // The record of a kind, from its fields' places.
+// Kept: a kind is a number here, as the words from C have it.
+#[tactic(auto, unfolding(crate::specs::Reading::record_by))]
 fn record_by(kind: u32, words: [u32; 16]) -> Record
     ensures { result ≡ record_by kind words }
 {
@@ -238,25 +241,11 @@ fn record_by(kind: u32, words: [u32; 16]) -> Record
 pub fn same(a: [u32; 16], b: [u32; 16]) -> bool
     ensures { result ≡ same_below 16 a b }
 {
-    (a[0] == b[0])
-        & (a[1] == b[1])
-        & (a[2] == b[2])
-        & (a[3] == b[3])
-        & (a[4] == b[4])
-        & (a[5] == b[5])
-        & (a[6] == b[6])
-        & (a[7] == b[7])
-        & (a[8] == b[8])
-        & (a[9] == b[9])
-        & (a[10] == b[10])
-        & (a[11] == b[11])
-        & (a[12] == b[12])
-        & (a[13] == b[13])
-        & (a[14] == b[14])
-        & (a[15] == b[15])
+    a == b
 }
 
 // The record whose words these are.
+#[tactic(auto, unfolding(crate::specs::Reading::record_of))]
 pub fn record_of(words: [u32; 16]) -> Record
     ensures { result ≡ record_of words }
 {

@@ -2,16 +2,17 @@
 // from the record's word (`word_said_lem`, proofs/Record.antt).
 #![tactic(auto)]
 
-ghost use Rattle.text.specs.Append.{Appends};
+ghost use Rattle.text.specs.Append.{Extends};
 ghost use Rattle.record_text.specs.Inner.{word_text};
 
 use registers::Esr;
+use text::Text;
 
 // The fields of a word, by its class.
-pub fn word_lines(out: &mut [u8], at: usize, esr: Esr) -> usize
-    ensures { Appends (word_text esr.0) out.old at out.new result }
+pub fn word_lines(text: &mut Text<'_>, esr: Esr)
+    ensures { Extends (word_text esr.0) text.old text.new }
 {
     let word = esr.0;
     let class = bits::field32(word, 31, 26);
-    field_text::lines(out, at, class as usize, word)
+    field_text::lines(text, class as usize, word);
 }

@@ -1,5 +1,5 @@
 -- A record's words: the number of its kind, its fields in the order of its struct, and zeros up to sixteen.
-use Rattle.std.specs.Prelude.{ℕ, Bool, List, [], ◌∷◌, replicate}
+use Rattle.std.specs.Prelude.{ℕ, Bool, List, ◌∷◌, replicate}
 use mir.Val.{bool_byte}
 use Rattle.record.specs.declared.kinds.Plain.{Plain}
 use Rattle.record.specs.declared.kinds.Wfx.{Wfx}

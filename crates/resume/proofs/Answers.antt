@@ -1,5 +1,6 @@
 -- Laws of the answer, and of the state beside it, for every state and every correction.
-use mathlib.Core.Path.{◌≡◌, refl, sym}
+use Rattle.std.specs.Prelude.{Result, Ok, Err}
+use mathlib.Core.Path.{◌≡◌, refl, sym, ap}
 use mathlib.Core.Bool.{Bool, true, false, cond}
 use mathlib.Core.List.{[], ◌∷◌}
 use mathlib.Core.Logic.{◌↔◌}
@@ -7,25 +8,26 @@ use Prim.Native.Nat.{ℕ}
 use lib.Dec.{T, eqb}
 use Rattle.bits.specs.Among.{among}
 use Rattle.bits.specs.Decide.{decide, FailsWith}
-use Rattle.bits.proofs.Arms.{told}
+use Rattle.bits.proofs.Arms.{told, absurd_answer}
 use Rattle.bits.proofs.Deciding.{all_pass, answer_is}
 use Rattle.promise.specs.Promise.{Answers}
 use Rattle.promise.proofs.Promises.{by_tests, fails_exactly, promised as answers}
 use Rattle.signed.specs.declared.Signed.{Signed}
 use Rattle.status.specs.Sound.{sound}
 use Rattle.exception.specs.declared.state.Guest.{Guest}
-use Rattle.resume.specs.declared.Answer.{Answer}
-use Rattle.resume.specs.declared.Answer.TheVariants.{Returned, UnsoundStatus, NoSavedStatus, UnsoundSaved}
+use Rattle.resume.specs.declared.ReturnRefusal.{ReturnRefusal}
+use Rattle.resume.specs.declared.ReturnRefusal.TheVariants.{UnsoundStatus, NoSavedStatus, UnsoundSaved}
 use Rattle.resume.specs.declared.Resumed.{Resumed}
 use Rattle.resume.specs.Answer.{answer_number}
 use Rattle.resume.specs.Return.{mode_of, banked, saved_of, restored, back, return_tests, return_numbers, return_answer, resulting}
 use Rattle.resume.specs.Return.{returned}
 use Rattle.resume.specs.Same.{OnlyMoved}
 use Rattle.resume.specs.Promise.{Returning}
+use Rattle.resume.specs.Inner.{with_state, after_return}
 
 answered : (s : Guest) → Answers answer_number (return_answer s) (return_numbers s) (return_answer s)
 unfolding return_answer
-answered s = by_tests answer_number (return_tests s) Returned refl refl refl
+answered s = by_tests answer_number (return_tests s) (Ok tt) refl refl refl
 
 -- what the calls promise, by their equation alone
 pub promised : (s : Guest) (c : Signed) {r : Resumed} → r ≡ returned s c → Returning s c r
@@ -42,51 +44,60 @@ number_listed s = answer_is (λ n. T (among (0 ∷ 9 ∷ []) n)) (return_numbers
 
 -- ---- the answer by its tests, with the state beside it
 
-pub unsound : (s : Guest) → sound s.marks s.status ≡ false → return_answer s ≡ UnsoundStatus
-unfolding return_answer
-unsound s e = rw e
-
-pub without_saved : (s : Guest) → sound s.marks s.status ≡ true → banked (mode_of s) ≡ false → return_answer s ≡ NoSavedStatus
-unfolding return_answer
-without_saved s e b = rw (e, b)
-
-pub unsound_saved : (s : Guest) → sound s.marks s.status ≡ true → banked (mode_of s) ≡ true
-    → sound s.marks (saved_of (mode_of s) s.saved) ≡ false → return_answer s ≡ UnsoundSaved
-unfolding return_answer
-unsound_saved s e b d = rw (e, b, d)
-
 -- what a state shows that returns
 pub record Passes (s : Guest) : Type 0 where
   pub status : sound s.marks s.status ≡ true
   pub mode : banked (mode_of s) ≡ true
   pub saved : sound s.marks (saved_of (mode_of s) s.saved) ≡ true
 
-pub passed : (s : Guest) → Passes s → return_answer s ≡ Returned
+pub passed : (s : Guest) → Passes s → return_answer s ≡ Ok tt
 unfolding return_answer
-passed s p = all_pass (return_tests s) Returned (p.status, (p.mode, (p.saved, tt)))
+passed s p = all_pass (return_tests s) (Ok tt) (p.status, (p.mode, (p.saved, tt)))
 
 -- what an answer makes of the state
-abbrev pub result : Guest → Signed → Answer → Resumed
+abbrev pub result : Guest → Signed → Result Unit ReturnRefusal → Resumed
 result s c a = record { answer = a; state = resulting a s (back s c) }
 
-pub by_answer : (s : Guest) (c : Signed) {a : Answer} → return_answer s ≡ a → result s c a ≡ returned s c
+pub by_answer : (s : Guest) (c : Signed) {a : Result Unit ReturnRefusal} → return_answer s ≡ a → result s c a ≡ returned s c
 unfolding returned
 by_answer s c e = told (result s c) e
 
 -- a state that passes returns
-pub returns_so : (s : Guest) (c : Signed) → Passes s → returned s c ≡ record { answer = Returned; state = back s c }
+pub returns_so : (s : Guest) (c : Signed) → Passes s → returned s c ≡ record { answer = Ok tt; state = back s c }
 returns_so s c p = sym (by_answer s c (passed s p))
+
+-- ---- the state after a return, or its refusal, as the answer and the state beside it
+
+accepted_as : (a : Result Unit ReturnRefusal) (s after : Guest) {g : Guest} → Ok g ≡ with_state after a
+    → ◌≡◌ {A = Resumed} record { answer = Ok tt; state = g } record { answer = a; state = resulting a s after }
+accepted_as (Ok u) s after {g} e = let q : g ≡ after = cc e in ap (λ (x : Guest). record { answer = Ok tt; state = x }) q
+accepted_as (Err r) s after e = absurd_answer (cc e)
+
+refused_as : (a : Result Unit ReturnRefusal) (s after : Guest) {r : ReturnRefusal} → Err r ≡ with_state after a
+    → ◌≡◌ {A = Resumed} record { answer = Err r; state = s } record { answer = a; state = resulting a s after }
+refused_as (Ok u) s after e = absurd_answer (cc e)
+refused_as (Err UnsoundStatus) s after e = cc
+refused_as (Err NoSavedStatus) s after e = cc
+refused_as (Err UnsoundSaved) s after e = cc
+
+pub took : (s : Guest) (c : Signed) (g : Guest) → Ok g ≡ after_return s c → Returning s c record { answer = Ok tt; state = g }
+unfolding returned
+took s c g e = promised s c (accepted_as (return_answer s) s (back s c) e)
+
+pub refused : (s : Guest) (c : Signed) (r : ReturnRefusal) → Err r ≡ after_return s c → Returning s c record { answer = Err r; state = s }
+unfolding returned
+refused s c r e = promised s c (refused_as (return_answer s) s (back s c) e)
 
 -- ---- what a return changes
 
 -- a refusal gives back the very state
-untouched : (a : Answer) (s after : Guest) → (a ≡ Returned → ⊥) → resulting a s after ≡ s
-untouched Returned s after n = absurd (n refl)
-untouched UnsoundStatus s after n = refl
-untouched NoSavedStatus s after n = refl
-untouched UnsoundSaved s after n = refl
+untouched : (a : Result Unit ReturnRefusal) (s after : Guest) → (a ≡ Ok tt → ⊥) → resulting a s after ≡ s
+untouched (Ok tt) s after n = absurd (n refl)
+untouched (Err UnsoundStatus) s after n = refl
+untouched (Err NoSavedStatus) s after n = refl
+untouched (Err UnsoundSaved) s after n = refl
 
-pub refused_untouched : (s : Guest) (c : Signed) → (return_answer s ≡ Returned → ⊥) → (returned s c).state ≡ s
+pub refused_untouched : (s : Guest) (c : Signed) → (return_answer s ≡ Ok tt → ⊥) → (returned s c).state ≡ s
 unfolding returned
 refused_untouched s c = untouched (return_answer s) s (back s c)
 

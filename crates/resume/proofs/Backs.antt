@@ -1,6 +1,7 @@
 -- ONE EXCEPTION: the return right after it, with its correction, answers 0 and gives the first state again, but for the saved status and
 -- link register of the mode entered and the fault registers written, each of which is as the exception left it. Over every row, so that
 -- injections and deliveries are one law.
+use Rattle.std.specs.Prelude.{Ok}
 use mathlib.Core.Path.{◌≡◌, refl, sym, ap, ◌∙◌, subst}
 use mathlib.Core.Bool.{true}
 use mathlib.Core.List.{List, [], ◌∷◌}
@@ -25,7 +26,6 @@ use Rattle.exception.specs.State.{register_in}
 use Rattle.exception.specs.Entry.{link_from, correction_in, saved_in, entered}
 use Rattle.exception.proofs.Changed.{changed_same}
 use Rattle.exception.proofs.Registers.{link_held}
-use Rattle.resume.specs.declared.Answer.TheVariants.{Returned}
 use Rattle.resume.specs.Return.{mode_of, banked, saved_of, restored, back, returned}
 use Rattle.resume.specs.Same.{EqualBut, saved_words, fault_words, link_place, saved_place, SameBut}
 use Rattle.resume.specs.Nest.{Typed, undone}
@@ -100,10 +100,10 @@ module _ (s : Guest) (row : Row) (faults : FaultRegisters) where
 
       -- THE RETURN RIGHT AFTER IT
       pub back_again : sound s.marks s.status ≡ true
-          → returned (entered s row faults) (correction_in row (t32 s.status)) ≡ record { answer = Returned; state = undone s row faults }
+          → returned (entered s row faults) (correction_in row (t32 s.status)) ≡ record { answer = Ok tt; state = undone s row faults }
       back_again ok =
           returns_so (entered s row faults) (correction_in row (t32 s.status)) (passes_entered ok)
-          ∙ ap (λ (g : Guest). record { answer = Returned; state = g }) restored_back
+          ∙ ap (λ (g : Guest). record { answer = Ok tt; state = g }) restored_back
 
     -- which is the first state, but for these
     pub undone_same : (written : List ℕ) → EqualBut written (fault_words faults) (fault_words s.faults)

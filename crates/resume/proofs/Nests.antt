@@ -1,6 +1,7 @@
 -- A NEST: any list of exceptions, each taken in the state that the last one left, no two entering the same mode, then returned in turn, the
 -- last first: each return answers 0, and the first state comes again, but for the saved status and link registers of the modes entered and
 -- the fault registers written.
+use Rattle.std.specs.Prelude.{Ok}
 use mathlib.Core.Path.{◌≡◌, refl, sym, ap, ◌∙◌, subst}
 use mathlib.Core.Bool.{true, false, not}
 use mathlib.Core.List.{List, [], ◌∷◌}
@@ -15,7 +16,6 @@ use Rattle.exception.specs.declared.state.FaultRegisters.{FaultRegisters}
 use Rattle.exception.specs.declared.state.Guest.{Guest}
 use Rattle.exception.specs.declared.entry.Row.{Row}
 use Rattle.exception.specs.Entry.{link_from, entered}
-use Rattle.resume.specs.declared.Answer.TheVariants.{Returned}
 use Rattle.resume.specs.declared.Resumed.{Resumed}
 use Rattle.resume.specs.Return.{returned}
 use Rattle.resume.specs.Same.{each, SameBut, OnlyMoved}
@@ -37,7 +37,7 @@ module _ (s : Guest) (x : Exception) (xs : List Exception) (typed : Typed s) (ok
   passes : Passes (taken s x)
   passes = passes_entered s x.row (x.leaves s) ok
 
-  returns_around : (returned (nested (taken s x) xs) (correction_at s x)).answer ≡ Returned
+  returns_around : (returned (nested (taken s x) xs) (correction_at s x)).answer ≡ Ok tt
   returns_around =
       ap (λ (r : Resumed). r.answer)
       (returns_so (nested (taken s x) xs) (correction_at s x)

@@ -1,10 +1,10 @@
 -- The number of each answer (02, C-22): 9 is the only refusal.
-use Rattle.std.specs.Prelude.{ℕ}
-use Rattle.resume.specs.declared.Answer.{Answer}
-use Rattle.resume.specs.declared.Answer.TheVariants.{Returned, UnsoundStatus, NoSavedStatus, UnsoundSaved}
+use Rattle.std.specs.Prelude.{ℕ, Result, Ok, Err}
+use Rattle.resume.specs.declared.ReturnRefusal.{ReturnRefusal}
+use Rattle.resume.specs.declared.ReturnRefusal.TheVariants.{UnsoundStatus, NoSavedStatus, UnsoundSaved}
 
-abbrev pub answer_number : Answer → ℕ
-answer_number Returned = 0
-answer_number UnsoundStatus = 9
-answer_number NoSavedStatus = 9
-answer_number UnsoundSaved = 9
+abbrev pub answer_number : Result Unit ReturnRefusal → ℕ
+answer_number (Ok tt) = 0
+answer_number (Err UnsoundStatus) = 9
+answer_number (Err NoSavedStatus) = 9
+answer_number (Err UnsoundSaved) = 9

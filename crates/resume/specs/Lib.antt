@@ -2,5 +2,6 @@
 pub mod Answer
 pub mod Return
 pub mod Promise
+pub mod Inner
 pub mod Same
 pub mod Nest

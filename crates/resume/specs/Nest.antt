@@ -1,6 +1,6 @@
 -- A nest (02, C-22): "a whole nest of injections, each returned in turn, as long as no two enter the same mode". Over rows, so that
 -- injections and deliveries are one law.
-use Rattle.std.specs.Prelude.{◌≡◌, Bool, true, not, ◌&&◌, List, [], ◌∷◌, ◌++◌, ℕ, ◌^◌, ◌<◌, length}
+use Rattle.std.specs.Prelude.{◌≡◌, Bool, true, not, ◌&&◌, List, [], ◌∷◌, ◌++◌, ℕ, ◌^◌, ◌<◌, length, Ok}
 use Rattle.bits.specs.Among.{among}
 use Rattle.signed.specs.declared.Signed.{Signed}
 use Rattle.status.specs.declared.Mode.{Mode}
@@ -11,7 +11,6 @@ use Rattle.exception.specs.declared.state.Guest.{Guest}
 use Rattle.exception.specs.declared.entry.Row.{Row}
 use Rattle.exception.specs.State.{with_register, changed}
 use Rattle.exception.specs.Entry.{correction_in, link_from, saved_in, entered}
-use Rattle.resume.specs.declared.Answer.TheVariants.{Returned}
 use Rattle.resume.specs.Return.{returned}
 use Rattle.resume.specs.Same.{EqualBut, fault_words, link_place, each}
 
@@ -50,7 +49,7 @@ nested s (x ∷ xs) = (returned (nested (taken s x) xs) (correction_at s x)).sta
 -- each return answers 0
 abbrev pub AllReturn : Guest → List Exception → Type 0
 AllReturn s [] = Unit {0}
-AllReturn s (x ∷ xs) = AllReturn (taken s x) xs × ((returned (nested (taken s x) xs) (correction_at s x)).answer ≡ Returned)
+AllReturn s (x ∷ xs) = AllReturn (taken s x) xs × ((returned (nested (taken s x) xs) (correction_at s x)).answer ≡ Ok tt)
 
 -- the modes entered, and the fault registers written
 abbrev pub modes_of : List Exception → List Mode

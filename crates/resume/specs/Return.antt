@@ -1,6 +1,6 @@
 -- The return (02, C-22): "status word from the current mode's saved word, PC from the link register less a stated signed correction, modulo
 -- 2^32".
-use Rattle.std.specs.Prelude.{ℕ, Bool, not, ◌&&◌, cond, List, [], ◌∷◌, eqb}
+use Rattle.std.specs.Prelude.{ℕ, Bool, not, ◌&&◌, cond, List, [], ◌∷◌, eqb, Result, Ok, Err}
 use Rattle.bits.specs.Decide.{Test, needs, decide, relabel}
 use Rattle.bits.specs.Field.{field_of}
 use Rattle.signed.specs.declared.Signed.{Signed}
@@ -10,8 +10,8 @@ use Rattle.status.specs.Sound.{sound}
 use Rattle.exception.specs.declared.state.Saved.{Saved}
 use Rattle.exception.specs.declared.state.Guest.{Guest}
 use Rattle.exception.specs.State.{register_in, changed}
-use Rattle.resume.specs.declared.Answer.{Answer}
-use Rattle.resume.specs.declared.Answer.TheVariants.{Returned, UnsoundStatus, NoSavedStatus, UnsoundSaved}
+use Rattle.resume.specs.declared.ReturnRefusal.{ReturnRefusal}
+use Rattle.resume.specs.declared.ReturnRefusal.TheVariants.{UnsoundStatus, NoSavedStatus, UnsoundSaved}
 use Rattle.resume.specs.declared.Resumed.{Resumed}
 use Rattle.resume.specs.Answer.{answer_number}
 
@@ -38,11 +38,11 @@ back s c = restored s (mode_of s) (saved_of (mode_of s) s.saved) c
 
 -- the tests in their order: an unsound state, a mode without a saved word, a saved word that is no sound status word under the state's
 -- marks
-abbrev pub return_tests : Guest → List (Test Answer)
+abbrev pub return_tests : Guest → List (Test (Result Unit ReturnRefusal))
 return_tests s =
-    needs (sound s.marks s.status) UnsoundStatus
-    ∷ needs (banked (mode_of s)) NoSavedStatus
-    ∷ needs (sound s.marks (saved_of (mode_of s) s.saved)) UnsoundSaved
+    needs (sound s.marks s.status) (Err UnsoundStatus)
+    ∷ needs (banked (mode_of s)) (Err NoSavedStatus)
+    ∷ needs (sound s.marks (saved_of (mode_of s) s.saved)) (Err UnsoundSaved)
     ∷ []
 
 -- the same tests, each with its number
@@ -50,11 +50,11 @@ abbrev pub return_numbers : Guest → List (Test ℕ)
 return_numbers s = relabel answer_number (return_tests s)
 
 -- the first test that fails gives the answer
-unfoldable pub return_answer : Guest → Answer
-return_answer s = decide (return_tests s) Returned
+unfoldable pub return_answer : Guest → Result Unit ReturnRefusal
+return_answer s = decide (return_tests s) (Ok tt)
 
 -- an answer 0 comes with the new state, and a refusal "with nothing changed"
-abbrev pub resulting : Answer → Guest → Guest → Guest
+abbrev pub resulting : Result Unit ReturnRefusal → Guest → Guest → Guest
 resulting a s after = cond (eqb (answer_number a) 0) after s
 
 unfoldable pub returned : Guest → Signed → Resumed

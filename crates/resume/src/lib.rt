@@ -5,16 +5,16 @@ ghost use Rattle.std.specs.Prelude.{◌≡◌};
 ghost use Rattle.resume.specs.Answer.{answer_number};
 ghost use Rattle.resume.specs.Return.{banked, saved_of, restored};
 ghost use Rattle.resume.specs.Promise.{Returning};
+ghost use Rattle.resume.specs.Inner.{after_return};
 
 use bits::field32;
 use exception::{Guest, Saved, register};
 use signed::{Signed, difference};
 use status::{by_mode, link_register, sound};
 
-// Every refusal's number is 9.
-#[derive(Clone, Copy)]
-pub enum Answer {
-    Returned,
+// Why a return is refused. Every refusal's number is 9.
+#[derive(Clone, Copy, PartialEq, Eq)]
+pub enum ReturnRefusal {
     // The status word's mode, or a bit of its 24:21, is wrong.
     UnsoundStatus,
     // The guest is in User or System mode, which have no saved status word.
@@ -23,20 +23,21 @@ pub enum Answer {
     UnsoundSaved,
 }
 
+// Kept: a refusal gives the state back beside the answer (`refused_untouched`, proofs/Answers.antt).
 #[derive(Clone, Copy)]
 pub struct Resumed {
-    pub answer: Answer,
+    pub answer: Result<(), ReturnRefusal>,
     pub state: Guest,
 }
 
-pub fn number(answer: Answer) -> u32
+pub fn number(answer: Result<(), ReturnRefusal>) -> u32
     ensures { result ≡ answer_number answer }
 {
     match answer {
-        Answer::Returned => 0,
-        Answer::UnsoundStatus => 9,
-        Answer::NoSavedStatus => 9,
-        Answer::UnsoundSaved => 9,
+        Ok(()) => 0,
+        Err(ReturnRefusal::UnsoundStatus) => 9,
+        Err(ReturnRefusal::NoSavedStatus) => 9,
+        Err(ReturnRefusal::UnsoundSaved) => 9,
     }
 }
 
@@ -44,7 +45,7 @@ pub fn number(answer: Answer) -> u32
 fn banked(mode: u32) -> bool
     ensures { result ≡ banked mode }
 {
-    (mode != 0x10) & (mode != 0x1F)
+    !matches!(mode, 0x10 | 0x1F)
 }
 
 // The saved status word of a mode that has one.
@@ -57,46 +58,50 @@ fn saved_of(mode: u32, saved: Saved) -> u32
 }
 
 // The state with this status word, and with PC at the mode's link less the correction.
+#[tactic(auto, unfolding(crate::specs::Return::restored))]
 fn restored(state: Guest, mode: u32, status: u32, correction: Signed) -> Guest
     ensures { result ≡ restored state mode status correction }
 {
-    let mut after = state;
-    let regs = state.regs;
-    let link = register(regs, link_register(mode) as usize);
-    after.pc = difference(link, correction);
-    after.status = status;
-    after
+    let link = register(state.regs, link_register(mode) as usize);
+    Guest {
+        pc: difference(link, correction),
+        status,
+        ..state
+    }
 }
 
-// The answer, with the state after it: a refusal's is the state that came. The correction is what was added to PC for the link.
-pub fn resume(state: Guest, correction: Signed) -> Resumed
-    ensures { Returning state correction result }
+// The state after a return, or why it is refused.
+#[tactic(auto, unfolding(crate::specs::Return::return_answer))]
+fn after_return(state: Guest, correction: Signed) -> Result<Guest, ReturnRefusal>
+    ensures { result ≡ after_return state correction }
 {
-    let marks = state.marks;
-    if !sound(marks, state.status) {
-        return Resumed {
-            answer: Answer::UnsoundStatus,
-            state,
-        };
+    if !sound(state.marks, state.status) {
+        return Err(ReturnRefusal::UnsoundStatus);
     }
     let mode = field32(state.status as u64, 4, 0);
     if !banked(mode) {
-        return Resumed {
-            answer: Answer::NoSavedStatus,
-            state,
-        };
+        return Err(ReturnRefusal::NoSavedStatus);
     }
-    let saved = state.saved;
-    let word = saved_of(mode, saved);
-    if !sound(marks, word) {
-        return Resumed {
-            answer: Answer::UnsoundSaved,
-            state,
-        };
+    let word = saved_of(mode, state.saved);
+    if !sound(state.marks, word) {
+        return Err(ReturnRefusal::UnsoundSaved);
     }
-    let after = restored(state, mode, word, correction);
-    Resumed {
-        answer: Answer::Returned,
-        state: after,
+    Ok(restored(state, mode, word, correction))
+}
+
+// The answer, with the state after it: a refusal's is the state that came. The correction is what was added to PC for the link.
+#[tactic(auto, using(crate::proofs::Answers::took, crate::proofs::Answers::refused))]
+pub fn resume(state: Guest, correction: Signed) -> Resumed
+    ensures { Returning state correction result }
+{
+    match after_return(state, correction) {
+        Ok(after) => Resumed {
+            answer: Ok(()),
+            state: after,
+        },
+        Err(refusal) => Resumed {
+            answer: Err(refusal),
+            state,
+        },
     }
 }

@@ -1,25 +1,20 @@
 // Rows read a byte at a time, by programs from standard input: a word of small letters, and hexadecimal numbers with one space before each.
-ghost use Rattle.std.specs.Prelude.{◌≡◌, ◌≤◌, max};
-ghost use Rattle.rows.specs.Row.{no_line};
+ghost use Rattle.std.specs.Prelude.{◌≡◌, ◌≤◌, max, IfSome};
 
 use super::row::{Row, with_letter};
 use std::io::Read;
-use text::Digit;
 
 // A line as far as it has come.
 #[derive(Clone, Copy)]
 struct Line {
-    // Whether no byte has come.
-    empty: bool,
     // The word, and whether it has ended.
     word: u64,
     named: bool,
     // The numbers that have ended.
     count: usize,
     numbers: [u64; 256],
-    // The number that has not ended, and whether it has a digit.
-    value: u64,
-    begun: bool,
+    // The number that has not ended, where it has a digit.
+    number: Option<u64>,
     // Whether all so far is a row's beginning.
     good: bool,
 }
@@ -28,13 +23,11 @@ fn empty_line() -> Line
     ensures { result.count ≡ 0 }
 {
     Line {
-        empty: true,
         word: 0,
         named: false,
         count: 0,
         numbers: [0; 256],
-        value: 0,
-        begun: false,
+        number: None,
         good: true,
     }
 }
@@ -57,12 +50,10 @@ fn end_number(line: Line) -> Line
 {
     let mut next = line;
     let count = next.count;
-    let value = next.value;
-    next.good = next.good & next.begun;
-    next.value = 0;
-    next.begun = false;
+    next.good = next.good & line.number.is_some();
+    next.number = None;
     if count < 256 {
-        next.numbers[count] = value;
+        next.numbers[count] = line.number.unwrap_or(0);
         next.count = count + 1;
     } else {
         next.good = false;
@@ -75,9 +66,9 @@ fn feed_digit(line: Line, digit: u32) -> Line
     ensures { result.count ≤ max line.count 256 }
 {
     let mut next = line;
-    if next.value < 0x1000_0000_0000_0000 {
-        next.value = next.value * 16 + (digit % 16) as u64;
-        next.begun = true;
+    let value = next.number.unwrap_or(0);
+    if value < 0x1000_0000_0000_0000 {
+        next.number = Some(value * 16 + (digit % 16) as u64);
     } else {
         next.good = false;
     }
@@ -91,8 +82,8 @@ fn feed_number(line: Line, byte: u8) -> Line
         return end_number(line);
     }
     match text::hex_digit(byte) {
-        Digit::Value(digit) => feed_digit(line, digit),
-        Digit::None => {
+        Some(digit) => feed_digit(line, digit),
+        None => {
             let mut next = line;
             next.good = false;
             next
@@ -104,82 +95,10 @@ fn feed_number(line: Line, byte: u8) -> Line
 fn feed(line: Line, byte: u8) -> Line
     ensures { result.count ≤ max line.count 256 }
 {
-    let mut next = line;
-    next.empty = false;
-    if next.named {
-        feed_number(next, byte)
+    if line.named {
+        feed_number(line, byte)
     } else {
-        feed_word(next, byte)
-    }
-}
-
-// The byte that was read last, or that the input has ended, and the bytes of the chunk that are still to come.
-#[derive(Clone, Copy)]
-struct Place {
-    byte: u8,
-    ended: bool,
-    from: usize,
-    to: usize,
-}
-
-// The next byte of a chunk.
-fn byte_at(chunk: &[u8; 512], from: usize, to: usize) -> Place {
-    if from < to {
-        if from < 512 {
-            return Place {
-                byte: chunk[from],
-                ended: false,
-                from: from + 1,
-                to,
-            };
-        }
-    }
-    Place {
-        byte: 0,
-        ended: true,
-        from: 0,
-        to: 0,
-    }
-}
-
-// The next byte of the input: a chunk is read where the last one is used up. A read that fails ends the input.
-fn next_byte<R: Read>(source: &mut R, chunk: &mut [u8; 512], before: Place) -> Place {
-    if before.from < before.to {
-        return byte_at(chunk, before.from, before.to);
-    }
-    match source.read(chunk) {
-        Ok(n) => byte_at(chunk, 0, n),
-        Err(_) => byte_at(chunk, 0, 0),
-    }
-}
-
-// How far the input has been read.
-#[derive(Clone, Copy)]
-pub struct Reader {
-    // The row that was read last.
-    pub row: Row,
-    // Whether there was no line any more.
-    pub ended: bool,
-    place: Place,
-}
-
-// Nothing has been read.
-pub fn start() -> Reader
-    ensures { result.row ≡ no_line }
-{
-    Reader {
-        row: Row {
-            word: 0,
-            count: 0,
-            numbers: [0; 256],
-        },
-        ended: false,
-        place: Place {
-            byte: 0,
-            ended: false,
-            from: 0,
-            to: 0,
-        },
+        feed_word(line, byte)
     }
 }
 
@@ -195,26 +114,52 @@ fn row_of(line: Line) -> Row
     }
 }
 
-// Reads the next row by way of a chunk. A last line may lack its newline, but what follows the last newline is no line where it is empty.
-//
-// A proved loop has to end, and nothing says that a line does: it counts down from a number that no run uses up.
-pub fn read<R: Read>(source: &mut R, chunk: &mut [u8; 512], before: Reader) -> Reader
-    ensures { result.row.count ≤ 256 }
-{
-    let mut place = before.place;
-    let mut line = empty_line();
-    let mut turns = u64::MAX;
-    while turns > 0 {
-        place = next_byte(source, chunk, place);
-        if place.ended | (place.byte == b'\n') {
-            break;
+// The rows of a reader, which is read by way of a chunk: the bytes from one place to another are still to come.
+#[derive(Drop)]
+pub struct Rows<'a, R: Read> {
+    source: &'a mut R,
+    chunk: [u8; 512],
+    from: usize,
+    to: usize,
+}
+
+impl<'a, R: Read> Rows<'a, R> {
+    pub fn new(source: &'a mut R) -> Self {
+        Rows {
+            source,
+            chunk: [0; 512],
+            from: 0,
+            to: 0,
         }
-        line = feed(line, place.byte);
-        turns -= 1;
     }
-    Reader {
-        row: row_of(line),
-        ended: place.ended & line.empty,
-        place,
+
+    // The next byte of the input. A read that fails ends it.
+    fn next_byte(&mut self) -> Option<u8> {
+        if self.from >= self.to {
+            self.from = 0;
+            self.to = self.source.read(&mut self.chunk).unwrap_or(0);
+        }
+        let bytes = self.chunk.get(self.from..self.to)?;
+        let byte = *bytes.first()?;
+        self.from += 1;
+        Some(byte)
+    }
+
+    // The next row, or that there is no line any more. A last line may lack its newline, but what follows the last newline is no line where it
+    // is empty.
+    //
+    // A proved loop has to end, and nothing says that a line does: it counts up to a number that no run reaches.
+    pub fn next_row(&mut self) -> Option<Row>
+        ensures { IfSome result (λ row. row.count ≤ 256) }
+    {
+        let mut line = None;
+        for _ in 0..u64::MAX {
+            match self.next_byte() {
+                Some(b'\n') => return Some(row_of(line.unwrap_or(empty_line()))),
+                Some(byte) => line = Some(feed(line.unwrap_or(empty_line()), byte)),
+                None => break,
+            }
+        }
+        line.map(row_of)
     }
 }

@@ -4,10 +4,12 @@
 // little cost. Input and output are borrowed here alone.
 #![tactic(auto)]
 
+mod answer;
 mod input;
 mod reply;
 mod row;
 
-pub use input::{Reader, read, start};
+pub use answer::{Calls, answer_all};
+pub use input::Rows;
 pub use reply::{Reply, no_row, one, refused, with, with_changes, with_sixteen, write};
-pub use row::{Row, are_words, count, is, is_words, long, sixteen, state, word};
+pub use row::{Row, are_words, count, is, is_words, long, word, words};

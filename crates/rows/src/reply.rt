@@ -3,8 +3,10 @@ ghost use Rattle.std.specs.Prelude.{◌≡◌, [], ◌∷◌};
 ghost use Rattle.rows.specs.Reply.{no_row, with_one, with_first, with_change, with_changes};
 
 use std::io::Write;
+use text::Text;
 
 // What a row is answered by. No call answers with more numbers.
+// Kept: fixed memory: a reply is a value, and no call allocates.
 #[derive(Clone, Copy)]
 pub struct Reply {
     count: usize,
@@ -58,10 +60,8 @@ pub fn with_sixteen(reply: Reply, words: [u32; 16]) -> Reply
     ensures { result ≡ with_first reply words 16 }
 {
     let mut next = reply;
-    let mut i = 0;
-    while i < 16 {
+    for i in 0..16 {
         next = with(next, wide(words[i]));
-        i += 1;
     }
     next
 }
@@ -81,10 +81,8 @@ pub fn with_changes(reply: Reply, before: [u32; 48], after: [u32; 48]) -> Reply
     ensures { result ≡ with_changes reply before after 48 }
 {
     let mut next = reply;
-    let mut i = 0;
-    while i < 48 {
-        next = with_change(next, i, before[i], after[i]);
-        i += 1;
+    for place in 0..48 {
+        next = with_change(next, place, before[place], after[place]);
     }
     next
 }
@@ -95,27 +93,16 @@ fn number_at(reply: Reply, at: usize) -> u64 {
 }
 
 // Appends a space and a number.
-fn put_next(out: &mut [u8], at: usize, n: u64) -> usize {
-    let space = text::append(out, at, b" ");
-    text::append_hex(out, space, n)
+fn put_next(text: &mut Text<'_>, n: u64) {
+    text.append(b" ");
+    text.append_hex(n);
 }
 
 // Puts a reply's numbers into a line.
-fn put(out: &mut [u8], reply: Reply) -> usize {
-    let mut end = text::append_hex(out, 0, number_at(reply, 0));
-    let mut i = 1;
-    while i < reply.count {
-        end = put_next(out, end, number_at(reply, i));
-        i += 1;
-    }
-    end
-}
-
-fn write_line<W: Write>(out: &mut W, line: &[u8], end: usize) -> bool {
-    if end <= line.len() {
-        out.write_all(&line[..end]).is_ok()
-    } else {
-        false
+fn put(text: &mut Text<'_>, reply: Reply) {
+    text.append_hex(number_at(reply, 0));
+    for at in 1..reply.count {
+        put_next(text, number_at(reply, at));
     }
 }
 
@@ -125,7 +112,8 @@ pub fn write<W: Write>(out: &mut W, reply: Reply) -> bool {
         return out.write_all(b"no row\n").is_ok();
     }
     let mut line = [0u8; 4352];
-    let end = put(&mut line, reply);
-    let whole = text::append(&mut line, end, b"\n");
-    write_line(out, &line, whole)
+    let mut text = Text::new(&mut line);
+    put(&mut text, reply);
+    text.append(b"\n");
+    out.write_all(text.written()).is_ok()
 }

@@ -3,6 +3,7 @@ ghost use Rattle.std.specs.Prelude.{◌≡◌, length};
 ghost use Rattle.rows.specs.Row.{with_letter, spelled_below, spells, number_at, word_at, are_words, is_words, words_at};
 
 // A row, or a line that is none: its word is 0 then, which no letters spell.
+// Kept: fixed memory: a row is a value, and no call allocates.
 #[derive(Clone, Copy)]
 pub struct Row {
     // The word as `spelled` makes a number of it.
@@ -24,10 +25,8 @@ fn spelled(letters: &[u8]) -> u64
     ensures { result ≡ spelled_below letters.now (length letters.now) }
 {
     let mut word: u64 = 0;
-    let mut i = 0;
-    while i < letters.len() {
-        word = with_letter(word, letters[i]);
-        i += 1;
+    for letter in letters {
+        word = with_letter(word, *letter);
     }
     word
 }
@@ -66,10 +65,8 @@ pub fn are_words(row: Row, from: usize, to: usize) -> bool
     ensures { result ≡ are_words row from to }
 {
     let mut all = true;
-    let mut i = 0;
-    while i < to {
+    for i in 0..to {
         all = all & ((i < from) | (long(row, i) < 0x1_0000_0000));
-        i += 1;
     }
     (to <= row.count) & all
 }
@@ -81,28 +78,13 @@ pub fn is_words(row: Row, n: usize) -> bool
     (row.count == n) & are_words(row, 0, n)
 }
 
-// Sixteen words from a place on: a record's, or an A32 access's values.
-pub fn sixteen(row: Row, from: u8) -> [u32; 16]
-    ensures { result ≡ words_at row from 16 }
+// The words from a place on, as many as the array holds: a record's or an A32 access's values are sixteen, a state's are 48.
+pub fn words<const N: usize>(row: Row, from: u8) -> [u32; N]
+    ensures { result ≡ words_at row from N }
 {
-    let mut words = [0u32; 16];
-    let mut i = 0;
-    while i < 16 {
+    let mut words = [0u32; N];
+    for i in 0..N {
         words[i] = word(row, from as usize + i);
-        i += 1;
-    }
-    words
-}
-
-// A state's words from a place on.
-pub fn state(row: Row, from: u8) -> [u32; 48]
-    ensures { result ≡ words_at row from 48 }
-{
-    let mut words = [0u32; 48];
-    let mut i = 0;
-    while i < 48 {
-        words[i] = word(row, from as usize + i);
-        i += 1;
     }
     words
 }

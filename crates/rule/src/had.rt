@@ -21,6 +21,7 @@ fn edition_rule(r: Record) -> u32
 }
 
 // The editions that allow a record's fields in a trap from this origin, whatever its class and IL.
+#[tactic(auto, using(crate::proofs::Masks::field_mask))]
 pub fn allowed(origin: Origin, r: Record) -> u32
     ensures { result ≡ allowed_of origin r }
 {

@@ -4,8 +4,9 @@ use mathlib.Core.Path.{◌≡◌, refl, ◌∙◌}
 use mathlib.Core.Bool.{true}
 use Prim.Native.Nat.{ℕ}
 use native.Mathlib.Omega.{arith}
+use Rattle.std.specs.Prelude.{Result, Ok, Err}
 use Rattle.bits.specs.Decide.{AllPass}
-use Rattle.form.specs.Answer.{Answer, given, refused}
+use Rattle.edition.specs.declared.Refusal.{Refusal}
 use Rattle.form.proofs.Forms.{Sound}
 use Rattle.form.proofs.Shows.{Shows}
 use Rattle.short_layout.specs.Fields.{record_word}
@@ -16,7 +17,7 @@ use Rattle.short_rule.specs.Has.{has}
 use Rattle.short_rule.proofs.Lengths.{ignores_isv}
 use Rattle.short_rule.proofs.Having.{has_edition, has_own, has_il, has_fits}
 use Rattle.short.specs.Form.{short_form}
-use Rattle.short.specs.Answer.{as_read, read_means, as_written, written_means}
+use Rattle.short.specs.Answer.{as_written, written_means}
 use Rattle.short.specs.Tests.{word_il, read_tests}
 
 module _ (e : ℕ) (r : Record) (h : has e r ≡ true) where
@@ -37,17 +38,10 @@ sound =
       write_early = λ r. (λ six. omega (arith, six), (λ six. omega (arith, six), tt));
     }
 
--- the answers of code show those of the calls
-pub read_shows : Shows as_read read_means
-read_shows = record { same = by }
-  where
-    by : (a : Answer Record) → read_means (as_read a) ≡ a
-    by (given r) = refl
-    by (refused refusal) = refl
-
+-- the answers of writing show those of the call; reading's are the call's own
 pub written_shows : Shows as_written written_means
 written_shows = record { same = by }
   where
-    by : (a : Answer ℕ) → written_means (as_written a) ≡ a
-    by (given w) = refl
-    by (refused refusal) = refl
+    by : (a : Result ℕ Refusal) → written_means (as_written a) ≡ a
+    by (Ok w) = refl
+    by (Err refusal) = refl

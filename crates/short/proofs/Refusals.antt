@@ -5,6 +5,7 @@ use mathlib.Core.Path.{◌≡◌, refl}
 use mathlib.Core.Bool.{Bool, false}
 use mathlib.Core.Logic.{◌↔◌, ◌⊎◌, inl, inr}
 use Prim.Native.Nat.{ℕ, ◌≤◌, ◌<◌}
+use Rattle.std.specs.Prelude.{Err}
 use Rattle.bits.specs.Field.{bit_of}
 use Rattle.bits.specs.Decide.{FirstFails, FailsWith}
 use Rattle.edition.specs.Mask.{count_below}
@@ -14,6 +15,7 @@ use Rattle.edition.proofs.Masks.{mask_bit, mask_bit_above}
 use Rattle.form.proofs.Calls.{OthersHave}
 use Rattle.promise.proofs.Promises.{first_exactly, fails_exactly, number_is}
 use Rattle.form.proofs.Promises as Forms
+use Rattle.form.proofs.Shows.{own_shows}
 use Rattle.registers.specs.declared.Hsr.{Hsr}
 use Rattle.short_record.specs.declared.kinds.Record.{Record}
 use Rattle.short_rule.specs.Has.{has, editions_of}
@@ -21,9 +23,7 @@ use Rattle.short.specs.Form.{short_form}
 use Rattle.short.specs.Answer.{read_said, written_said}
 use Rattle.short.specs.Reading.{has_word, read_of, read_list}
 use Rattle.short.specs.Writing.{write_of, write_list}
-use Rattle.short.specs.declared.answer.Read.{Read}
-use Rattle.short.specs.declared.answer.Written.{Written}
-use Rattle.short.proofs.Instance.{sound, read_shows, written_shows}
+use Rattle.short.proofs.Instance.{sound, written_shows}
 use Rattle.short.proofs.Promises.{reads, writes}
 
 -- a number of reading: 0, 1, 3, 4, 5 or 6
@@ -51,11 +51,11 @@ module _ (e : ℕ) (hsr : Hsr) where
       (inl refl)
 
   pub read_six_exactly : (mask count : ℕ)
-      → (read_of e hsr ≡ Read.Refused (OtherEditions mask count))
+      → (read_of e hsr ≡ Err (OtherEditions mask count))
       ↔ (OthersHave editions (λ x. has_word x hsr.0) e × (mask ≡ mask_of (λ x. has_word x hsr.0))
       × (count ≡ count_below editions (λ x. has_word x hsr.0)))
   unfolding read_of mask_of
-  read_six_exactly = Forms.read_six_exactly short_form sound read_shows e hsr.0
+  read_six_exactly = Forms.read_six_exactly short_form sound own_shows e hsr.0
 
 -- a number of writing: 0, 1, 4, 5 or 6
 abbrev pub OneOfWriting : ℕ → Type 0
@@ -74,7 +74,7 @@ module _ (e : ℕ) (r : Record) where
       (inl refl)
 
   pub write_six_exactly : (mask count : ℕ)
-      → (write_of e r ≡ Written.Refused (OtherEditions mask count))
+      → (write_of e r ≡ Err (OtherEditions mask count))
       ↔ (OthersHave editions (λ x. has x r) e × (mask ≡ editions_of r) × (count ≡ count_below editions (λ x. has x r)))
   unfolding write_of mask_of
   write_six_exactly = Forms.write_six_exactly short_form sound written_shows e r

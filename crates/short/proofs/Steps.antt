@@ -5,17 +5,17 @@ use mathlib.Core.Bool.{true, false, cond}
 use Prim.Native.Nat.{ℕ, ◌^◌, ◌<◌}
 use borrow.Author.Tests.{ltb-true}
 use lib.Dec.{T, eqb}
+use Rattle.std.specs.Prelude.{Result, Ok, Err}
 use Rattle.bits.specs.Inner.{joined_from}
 use Rattle.bits.specs.Layout.{fitting}
 use Rattle.short_rule.specs.Edition.{editions, is_edition, mask_of}
 use Rattle.edition.specs.Judge.{judge_of}
 use Rattle.edition.specs.declared.Refusal.{Refusal}
 use Rattle.edition.specs.declared.Refusal.TheVariants.{UnknownEdition, UnknownClass, ShortInstruction, NoEdition}
-use Rattle.edition.specs.declared.Verdict.{Verdict}
 use Rattle.edition.proofs.Judgement.{judge_taken}
 use Rattle.form.specs.Call.{call_of}
 use Rattle.form.specs.Form as Form
-use Rattle.form.proofs.Shows.{again_given, again_refused, carried_given, carried_refused}
+use Rattle.form.proofs.Shows.{own_shows, again_given, again_refused, carried_given, carried_refused}
 use Rattle.form.proofs.Verdicts.{made_mask, verdict_of, call_verdict}
 use Rattle.short_record.specs.Class.{head_of}
 use Rattle.short_layout.specs.Fields.{fields_of, record_word}
@@ -28,55 +28,49 @@ use Rattle.short_rule.proofs.Having.{has_fits}
 use Rattle.short.specs.Inner.{makes}
 use Rattle.short.specs.Tests.{class_known, word_il, read_tests, write_tests}
 use Rattle.short.specs.Form.{short_form}
-use Rattle.short.specs.Answer.{as_read, as_written, as_carried}
+use Rattle.short.specs.Answer.{as_written}
 use Rattle.short.specs.Reading.{has_word, read_of}
 use Rattle.short.specs.Writing.{write_of}
 use Rattle.short.specs.Carry.{rewritten_of, carried_of}
-use Rattle.short.specs.declared.answer.Read.{Read}
-use Rattle.short.specs.declared.answer.Written.{Written}
-use Rattle.short.specs.declared.answer.Carried.{Carried}
-use Rattle.short.proofs.Instance.{read_shows, written_shows}
+use Rattle.short.proofs.Instance.{written_shows}
 
--- what each verdict makes of a record, and of a word
-abbrev pub read_verdict : Record → Verdict → Read
-read_verdict r v = as_read (verdict_of r v)
-
-abbrev pub write_verdict : ℕ → Verdict → Written
+-- what a verdict makes of a word
+abbrev pub write_verdict : ℕ → Result Unit Refusal → Result Hsr Refusal
 write_verdict w v = as_written (verdict_of w v)
 
 module _ (e : ℕ) (hsr : Hsr) where
-  pub read_unknown : is_edition e ≡ false → read_of e hsr ≡ Read.Refused UnknownEdition
+  pub read_unknown : is_edition e ≡ false → read_of e hsr ≡ Err UnknownEdition
   unfolding read_of call_of
   read_unknown k = simp k
 
   module _ (k : is_edition e ≡ true) where
-    pub read_class : class_known hsr.0 ≡ false → read_of e hsr ≡ Read.Refused UnknownClass
+    pub read_class : class_known hsr.0 ≡ false → read_of e hsr ≡ Err UnknownClass
     unfolding read_of call_of
     read_class c = simp (k, c)
 
     module _ (c : class_known hsr.0 ≡ true) where
-      pub read_short : word_il hsr.0 ≡ false → read_of e hsr ≡ Read.Refused ShortInstruction
+      pub read_short : word_il hsr.0 ≡ false → read_of e hsr ≡ Err ShortInstruction
       unfolding read_of call_of
       read_short l = simp (k, c, l)
 
       pub read_judged : word_il hsr.0 ≡ true
-          → read_of e hsr ≡ read_verdict (record_at hsr.0) (judge_of e (mask_of (λ x. makes x (record_at hsr.0) hsr.0)))
+          → read_of e hsr ≡ verdict_of (record_at hsr.0) (judge_of e (mask_of (λ x. makes x (record_at hsr.0) hsr.0)))
       unfolding read_of Form.has_word mask_of
       read_judged l =
-          ap as_read (call_verdict editions (λ x. has_word x hsr.0) (read_tests hsr.0) e (record_at hsr.0) k (c, (l, tt)))
+          call_verdict editions (λ x. has_word x hsr.0) (read_tests hsr.0) e (record_at hsr.0) k (c, (l, tt))
 
 module _ (e : ℕ) (r : Record) where
-  pub write_unknown : is_edition e ≡ false → write_of e r ≡ Written.Refused UnknownEdition
+  pub write_unknown : is_edition e ≡ false → write_of e r ≡ Err UnknownEdition
   unfolding write_of call_of
   write_unknown k = simp k
 
   module _ (k : is_edition e ≡ true) where
-    pub write_class : (head_of r).own ≡ false → write_of e r ≡ Written.Refused NoEdition
+    pub write_class : (head_of r).own ≡ false → write_of e r ≡ Err NoEdition
     unfolding write_of call_of
     write_class o = simp (k, o)
 
     module _ (o : (head_of r).own ≡ true) where
-      pub write_short : record_il r ≡ false → write_of e r ≡ Written.Refused ShortInstruction
+      pub write_short : record_il r ≡ false → write_of e r ≡ Err ShortInstruction
       unfolding write_of call_of
       write_short l = simp (k, o, l)
 
@@ -91,7 +85,7 @@ unfolding mask_of
 makes_mask r w = made_mask editions (λ e. has e r) (joined_from 0 (fields_of r)) (record_word r) w (λ e h. joined_record r (has_fits e r h))
 
 -- a record that an edition takes is put together into its word, which has 32 bits
-module _ (e : ℕ) (r : Record) (k : is_edition e ≡ true) (t : judge_of e (editions_of r) ≡ Verdict.Taken) where
+module _ (e : ℕ) (r : Record) (k : is_edition e ≡ true) (t : judge_of e (editions_of r) ≡ Ok (tt {0})) where
   fits : T (fitting (fields_of r))
   unfolding mask_of
   fits = has_fits e r (judge_taken editions (λ x. has x r) e (ltb-true e editions k) t)
@@ -104,21 +98,21 @@ module _ (e : ℕ) (r : Record) (k : is_edition e ≡ true) (t : judge_of e (edi
 
 -- a word that is rewritten, by what reading answered, and a record that is carried, by what writing did
 module _ (e : ℕ) (hsr : Hsr) where
-  pub rewritten_taken : (r : Record) → read_of e hsr ≡ Read.Taken r → rewritten_of e hsr ≡ Written.Word hsr
+  pub rewritten_taken : (r : Record) → read_of e hsr ≡ Ok r → rewritten_of e hsr ≡ Ok hsr
   unfolding read_of rewritten_of
-  rewritten_taken = again_given read_shows as_written hsr.0 (Form.read_as short_form e hsr.0)
+  rewritten_taken = again_given own_shows as_written hsr.0 (Form.read_as short_form e hsr.0)
 
-  pub rewritten_refused : (refusal : Refusal) → read_of e hsr ≡ Read.Refused refusal → rewritten_of e hsr ≡ Written.Refused refusal
+  pub rewritten_refused : (refusal : Refusal) → read_of e hsr ≡ Err refusal → rewritten_of e hsr ≡ Err refusal
   unfolding read_of rewritten_of
-  rewritten_refused = again_refused read_shows as_written hsr.0 (Form.read_as short_form e hsr.0)
+  rewritten_refused = again_refused own_shows as_written hsr.0 (Form.read_as short_form e hsr.0)
 
 module _ (writer reader : ℕ) (r : Record) where
-  pub carried_word : (hsr : Hsr) → write_of writer r ≡ Written.Word hsr
-      → carried_of writer reader r ≡ as_carried (Form.read_back short_form reader r)
+  pub carried_word : (hsr : Hsr) → write_of writer r ≡ Ok hsr
+      → carried_of writer reader r ≡ Ok (Form.read_back short_form reader r)
   unfolding write_of carried_of
-  carried_word hsr = carried_given written_shows Carried.Unwritten as_carried short_form reader r (Form.write_as short_form writer r) hsr.0
+  carried_word hsr = carried_given written_shows Err Ok short_form reader r (Form.write_as short_form writer r) hsr.0
 
-  pub carried_unwritten : (refusal : Refusal) → write_of writer r ≡ Written.Refused refusal
-      → carried_of writer reader r ≡ Carried.Unwritten refusal
+  pub carried_unwritten : (refusal : Refusal) → write_of writer r ≡ Err refusal
+      → carried_of writer reader r ≡ Err refusal
   unfolding write_of carried_of
-  carried_unwritten = carried_refused written_shows Carried.Unwritten as_carried short_form reader r (Form.write_as short_form writer r)
+  carried_unwritten = carried_refused written_shows Err Ok short_form reader r (Form.write_as short_form writer r)

@@ -12,10 +12,7 @@ ghost use Rattle.short.specs.Reading.{Reading};
 ghost use Rattle.short.specs.Writing.{Writing};
 ghost use Rattle.short.specs.Carry.{Carrying, Rewriting};
 
-mod answer;
-
-pub use answer::{Carried, Read, Written};
-use edition::{Refusal, Verdict};
+use edition::Refusal;
 use registers::Hsr;
 use short_record::Record;
 
@@ -42,63 +39,55 @@ fn word_il(word: u64) -> bool
 }
 
 // Reads a word in a short edition.
-pub fn read(edition: u32, hsr: Hsr) -> Read
+pub fn read(edition: u32, hsr: Hsr) -> Result<Record, Refusal>
     ensures { Reading edition hsr result }
 {
     let word = hsr.0 as u64;
     if !short_rule::known(edition) {
-        return Read::Refused(Refusal::UnknownEdition);
+        return Err(Refusal::UnknownEdition);
     }
     if !short_record::is_class(bits::field32(word, 31, 26)) {
-        return Read::Refused(Refusal::UnknownClass);
+        return Err(Refusal::UnknownClass);
     }
     if !word_il(word) {
-        return Read::Refused(Refusal::ShortInstruction);
+        return Err(Refusal::ShortInstruction);
     }
     let r = short_record::record_at(hsr);
-    match edition::judge(edition, word_editions(r, word)) {
-        Verdict::Taken => Read::Taken(r),
-        Verdict::Refused(refusal) => Read::Refused(refusal),
-    }
+    edition::judge(edition, word_editions(r, word))?;
+    Ok(r)
 }
 
 // Writes a record in a short edition.
-pub fn write(edition: u32, r: Record) -> Written
+pub fn write(edition: u32, r: Record) -> Result<Hsr, Refusal>
     ensures { Writing edition r result }
 {
     let h = short_record::head(r);
     if !short_rule::known(edition) {
-        return Written::Refused(Refusal::UnknownEdition);
+        return Err(Refusal::UnknownEdition);
     }
     if !h.own {
-        return Written::Refused(Refusal::NoEdition);
+        return Err(Refusal::NoEdition);
     }
     if !short_rule::il_rule(h.class, h.isv, h.il) {
-        return Written::Refused(Refusal::ShortInstruction);
+        return Err(Refusal::ShortInstruction);
     }
-    match edition::judge(edition, short_rule::editions(r)) {
-        Verdict::Taken => Written::Word(Hsr(short_layout::joined(r) as u32)),
-        Verdict::Refused(refusal) => Written::Refused(refusal),
-    }
+    edition::judge(edition, short_rule::editions(r))?;
+    Ok(Hsr(short_layout::joined(r) as u32))
 }
 
 // Demand 2 beside running code: reads a word and writes its record again. A word that is taken comes back with the same 32 bits.
-pub fn rewrite(edition: u32, hsr: Hsr) -> Written
+pub fn rewrite(edition: u32, hsr: Hsr) -> Result<Hsr, Refusal>
     ensures { Rewriting edition hsr result }
 {
-    match read(edition, hsr) {
-        Read::Taken(r) => write(edition, r),
-        Read::Refused(refusal) => Written::Refused(refusal),
-    }
+    let r = read(edition, hsr)?;
+    write(edition, r)
 }
 
 // Demand 3 beside running code: writes a record in one edition and reads the word in another. The very record comes back where the reader's
-// edition has it, else refusal 6.
-pub fn carry(writer: u32, reader: u32, r: Record) -> Carried
+// edition has it, else refusal 6. The answer is the writer's refusal, or what the reader answers.
+pub fn carry(writer: u32, reader: u32, r: Record) -> Result<Result<Record, Refusal>, Refusal>
     ensures { Carrying writer reader r result }
 {
-    match write(writer, r) {
-        Written::Word(hsr) => Carried::Read(read(reader, hsr)),
-        Written::Refused(refusal) => Carried::Unwritten(refusal),
-    }
+    let hsr = write(writer, r)?;
+    Ok(read(reader, hsr))
 }

@@ -1,20 +1,21 @@
 // Syndrome words of the short form (HSR) for other languages: read, written, and a short record changed to a long one.
 #![tactic(auto)]
 
-ghost use Rattle.std.specs.Prelude.{[], ◌∷◌, ◌≡◌};
+ghost use Rattle.std.specs.Prelude.{[], ◌∷◌, ◌≡◌, Err};
 ghost use Rattle.edition.specs.Judge.{refusal_mask, refusal_count};
 ghost use Rattle.short.specs.Reading.{read_of};
 ghost use Rattle.short.specs.Writing.{write_of};
 ghost use Rattle.short_words.specs.Reading.{record_of};
 ghost use Rattle.short_calls.specs.Calls.{ReadWords, WrittenWords, WidenedWords};
-ghost use Rattle.widen.specs.Widening.{widen_of};
+ghost use Rattle.widen.specs.Widening.{widen_of, number_widened};
 
 use edition::Refusal;
 use registers::Hsr;
-use short::{Read, Written};
 use short_words::{record_of, words_of};
+use widen::WidenRefusal;
 
 // The mask and the count that a refusal carries.
+// Kept: esr_calls has it too; shared, these two lines would make the short form's calls stand on the long form's.
 fn editions_of(refusal: Refusal) -> [u32; 2]
     ensures { result ≡ refusal_mask refusal ∷ refusal_count refusal ∷ [] }
 {
@@ -31,12 +32,12 @@ pub fn knucklepin_hsr_read_raw(
     ensures { ReadWords (read_of edition (record { 0 = hsr })) result syndrome.new editions.new }
 {
     match short::read(edition, Hsr(hsr)) {
-        Read::Taken(r) => {
+        Ok(r) => {
             *syndrome = words_of(r);
             *editions = [0, 0];
             0
         }
-        Read::Refused(refusal) => {
+        Err(refusal) => {
             *syndrome = [0u32; 16];
             *editions = editions_of(refusal);
             edition::number(refusal)
@@ -54,16 +55,26 @@ pub fn knucklepin_hsr_write_raw(
     ensures { WrittenWords (write_of edition (record_of syndrome.now)) result hsr.new editions.new }
 {
     match short::write(edition, record_of(*syndrome)) {
-        Written::Word(word) => {
+        Ok(word) => {
             *hsr = word.0;
             *editions = [0, 0];
             0
         }
-        Written::Refused(refusal) => {
+        Err(refusal) => {
             *hsr = 0;
             *editions = editions_of(refusal);
             edition::number(refusal)
         }
+    }
+}
+
+// The number of a refusal to change a record.
+fn number(refusal: WidenRefusal) -> u32
+    ensures { result ≡ number_widened (Err refusal) }
+{
+    match refusal {
+        WidenRefusal::BadMode => 9,
+        WidenRefusal::NoEdition => 5,
     }
 }
 
@@ -72,17 +83,13 @@ pub fn knucklepin_widen(mode: u32, from: &[u32; 16], to: &mut [u32; 16]) -> u32
     ensures { WidenedWords (widen_of mode (record_of from.now)) result to.new }
 {
     match widen::widen(mode, record_of(*from)) {
-        widen::Widened::Long(r) => {
+        Ok(r) => {
             *to = record_words::words_of(r);
             0
         }
-        widen::Widened::BadMode => {
+        Err(refusal) => {
             *to = [0u32; 16];
-            9
-        }
-        widen::Widened::NoEdition => {
-            *to = [0u32; 16];
-            5
+            number(refusal)
         }
     }
 }

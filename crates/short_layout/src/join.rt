@@ -9,6 +9,7 @@ use layout::join;
 use layout::join::{conditional, head_of};
 use short_record::{DataAbort, InstructionAbort, Ldc, Mcr, Mcrr, Record, Simd};
 
+// Kept: mcr, mcrr and ldc are layout's but for the width of a register, of structs of their own (C-11.20).
 fn mcr(r: Mcr) -> u64
     ensures { result ≡ joined_from 0 (mcr_fields r) }
 {

@@ -2,47 +2,31 @@
 ghost use Rattle.std.specs.Prelude.{◌≡◌, []};
 ghost use Rattle.bits.specs.Decide.{decide};
 ghost use Rattle.short_record.specs.declared.kinds.Record.{Record};
-ghost use Rattle.short_rule.specs.Rule.{asynchronous, no_syndrome_rule};
 ghost use Rattle.short_rule.specs.Code.{everywhere};
 ghost use Rattle.short_reason.specs.Reason.{some_code, some_data_code, some_aet, some_wnr, access_rule, access_tests, rule_tests};
 
 use reason::aborts::{abort, some_syndrome, unless};
 use short_record::{DataAbort, InstructionAbort};
+use short_rule::{asynchronous, no_syndrome_rule};
 
 fn everywhere(code: u32) -> bool
     ensures { result ≡ everywhere code }
 {
-    (code <= 0x03)
-        | (0x05 <= code) & (code <= 0x07)
-        | (0x09 <= code) & (code <= 0x0B)
-        | (0x0D <= code) & (code <= 0x0F)
-        | (code == 0x10)
-        | (0x15 <= code) & (code <= 0x17)
-        | (code == 0x22)
-        | (code == 0x30)
+    matches!(code, 0x00..=0x03 | 0x05..=0x07 | 0x09..=0x0B | 0x0D..=0x10 | 0x15..=0x17 | 0x22 | 0x30)
 }
 
 // Whether some edition has a fault code of an instruction abort.
 fn some_code(code: u32) -> bool
     ensures { result ≡ some_code code }
 {
-    everywhere(code) | ((code == 0x18) | (0x1D <= code) & (code <= 0x1F))
+    everywhere(code) | matches!(code, 0x18 | 0x1D..=0x1F)
 }
 
 // Whether some edition has a fault code of a data abort.
 fn some_data_code(code: u32) -> bool
     ensures { result ≡ some_data_code code }
 {
-    some_code(code)
-        | ((code == 0x11) | (code == 0x21) | (code == 0x34) | (code == 0x35))
-        | (code == 0x19)
-}
-
-// An SError interrupt.
-fn asynchronous(code: u32) -> bool
-    ensures { result ≡ asynchronous code }
-{
-    (code == 0x11) | (code == 0x19)
+    some_code(code) | matches!(code, 0x11 | 0x19 | 0x21 | 0x34 | 0x35)
 }
 
 fn some_aet(aet: u32, code: u32) -> bool
@@ -55,12 +39,6 @@ fn some_wnr(aet: u32, wnr: bool, code: u32) -> bool
     ensures { result ≡ some_wnr aet wnr code }
 {
     !(asynchronous(code) & wnr) | (aet == 0)
-}
-
-fn no_syndrome(r: DataAbort) -> bool
-    ensures { result ≡ no_syndrome_rule r }
-{
-    (r.sas == 0) & !r.sse & (r.srt == 0) & !r.ar
 }
 
 fn access_rule(r: DataAbort) -> bool
@@ -78,7 +56,7 @@ fn access(r: DataAbort, rest: u32) -> u32
     let interrupt = unless(!asynchronous(r.code) | !r.cm, 22, extension);
     let own = unless(!r.isv | (!r.cm & !r.s1ptw), 12, interrupt);
     let register = unless(!r.isv | access_rule(r), 24, own);
-    unless(r.isv | no_syndrome(r), 10, register)
+    unless(r.isv | no_syndrome_rule(r), 10, register)
 }
 
 pub(crate) fn instruction_abort(r: InstructionAbort) -> u32

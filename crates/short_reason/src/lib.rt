@@ -5,22 +5,15 @@
 ghost use Rattle.std.specs.Prelude.{◌≡◌};
 ghost use Rattle.bits.specs.Decide.{decide};
 ghost use Rattle.short_record.specs.declared.kinds.Record.{Record};
-ghost use Rattle.short_rule.specs.Rule.{coproc_rule};
 ghost use Rattle.short_reason.specs.Reason.{rule_tests, why_of};
 
 use reason::aborts::unless;
 use reason::kinds::{call, condition, ldc, smc, transfer};
 use registers::Hsr;
 use short_record::{Record, Simd};
+use short_rule::coproc_rule;
 
 mod faults;
-
-// TA goes with coproc 1010, and no TA with 0.
-fn coproc_rule(ta: bool, coproc: u32) -> bool
-    ensures { result ≡ coproc_rule ta coproc }
-{
-    if ta { coproc == 0b1010 } else { coproc == 0 }
-}
 
 fn simd(r: Simd) -> u32
     ensures { result ≡ decide (rule_tests (Record.Simd r)) 0 }
@@ -48,6 +41,7 @@ fn rules(r: Record) -> u32
 }
 
 // The first rule that a word breaks.
+// Kept: a number and no enum, by the clause why_of; names' list of reasons has each rule's words at it.
 pub fn why(hsr: Hsr) -> u32
     ensures { result ≡ why_of hsr.0 }
 {

@@ -9,29 +9,14 @@ use record::{Head, mcr_class, mcrr_class, plain_class, without_isv};
 fn call_class(class: u32) -> bool
     ensures { result ≡ among call_classes class }
 {
-    (class == 0x11) | (class == 0x12)
+    matches!(class, 0x11 | 0x12)
 }
 
 // Whether the class is in the build.
 pub fn is_class(class: u32) -> bool
     ensures { result ≡ is_class class }
 {
-    (class == 0x00)
-        | (class == 0x01)
-        | (class == 0x03)
-        | (class == 0x04)
-        | (class == 0x05)
-        | (class == 0x06)
-        | (class == 0x07)
-        | (class == 0x08)
-        | (class == 0x0C)
-        | (class == 0x0E)
-        | (class == 0x11)
-        | (class == 0x12)
-        | (class == 0x13)
-        | (class == 0x20)
-        | (class == 0x22)
-        | (class == 0x24)
+    matches!(class, 0x00 | 0x01 | 0x03..=0x08 | 0x0C | 0x0E | 0x11..=0x13 | 0x20 | 0x22 | 0x24)
 }
 
 // A record's class, whether its kind has that class, IL and ISV.

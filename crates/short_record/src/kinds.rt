@@ -3,6 +3,8 @@
 // it.
 use record::{Call, Plain, Smc, Wfx};
 
+// Kept: Mcr, Mcrr and Ldc have the long form's fields, but a register is another number: one type would let it pass unmapped (C-11.20).
+
 // Classes 0x03, 0x05 and 0x08: a trapped MCR, MRC or VMRS.
 #[derive(Clone, Copy)]
 pub struct Mcr {

@@ -7,6 +7,7 @@ use bits::{bit, field32};
 use record::split;
 use registers::Hsr;
 
+// Kept: mcr_at, mcrr_at and ldc_at are record's but for the width of a register, of structs of their own (C-11.20).
 fn mcr_at(class: u32, word: u64) -> Mcr
     ensures { result ≡ mcr_at class word }
 {
@@ -99,6 +100,7 @@ fn data_abort_at(word: u64) -> DataAbort
 }
 
 // The record at a word's bits, by the layout of a class. A class with no layout reads as one without fields, which its kind lacks.
+#[tactic(auto, unfolding(crate::specs::Split::record_of))]
 fn record_of(class: u32, word: u64) -> Record
     ensures { result ≡ record_of class word }
 {

@@ -1,16 +1,14 @@
 -- The masks of the rules that go by the edition.
 -- Assumes nothing.
-use mathlib.Core.Path.{◌≡◌, refl}
-use mathlib.Core.Bool.{Bool, true, false, cond, not, ◌&&◌, ◌||◌, and-false}
+use mathlib.Core.Path.{◌≡◌}
+use mathlib.Core.Bool.{Bool, false, cond, ◌&&◌, and-false}
 use Prim.Native.Nat.{ℕ, ◌≤◌}
 use native.Mathlib.Omega.{arith}
 use borrow.Author.Tests.{lt-leb, ne_eqb}
 use lib.Bits.{bit_and}
-use Rattle.edition.specs.Feature.{ras}
-use Rattle.edition.proofs.Masks.{mask_and, mask_either, mask_known}
+use Rattle.edition.proofs.Masks.{mask_and, mask_known}
 use Rattle.short_rule.specs.Edition.{editions, is_edition, mask_of}
-use Rattle.short_rule.specs.Rule.{asynchronous}
-use Rattle.short_rule.specs.Code.{instruction_code, data_code, wnr_rule}
+use Rattle.short_rule.specs.Code.{instruction_code, data_code}
 
 -- a code that no table has room for is no edition's
 pub no_instruction_code : (e code : ℕ) → 64 ≤ code → instruction_code e code ≡ false
@@ -45,20 +43,6 @@ no_code e code h =
 pub both_masks : (p q : ℕ → Bool) → bit_and (mask_of p) (mask_of q) ≡ mask_of (λ e. p e && q e)
 unfolding mask_of
 both_masks = mask_and editions
-
--- a test that holds by itself, or else where an edition passes one and a field another
-pub either_mask : (a b : Bool) (p : ℕ → Bool) → mask_of (λ e. a || p e && b) ≡ cond a (mask_of (λ e. true)) (cond b (mask_of p) 0)
-unfolding mask_of
-either_mask = mask_either editions
-
--- WnR is free without RAS, and elsewhere where the abort isn't asynchronous
-pub wnr_mask : (wnr : Bool) (code : ℕ)
-    → mask_of (λ e. wnr_rule e wnr code) ≡ cond (asynchronous code && wnr) (mask_of (λ e. not (ras e))) (mask_of (λ e. true))
-wnr_mask wnr code = by (asynchronous code && wnr)
-  where
-    by : (b : Bool) → mask_of (λ e. not b || not (ras e)) ≡ cond b (mask_of (λ e. not (ras e))) (mask_of (λ e. true))
-    by true = refl
-    by false = refl
 
 -- a rule of the edition, kept where a test of the record holds
 pub edition_mask : (b : Bool) (rule : ℕ → Bool) → cond b (mask_of rule) 0 ≡ mask_of (λ e. is_edition e && b && rule e)

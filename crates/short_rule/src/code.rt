@@ -147,6 +147,7 @@ const DATA_CODES: [u32; 64] = [
     0, // 0x3F
 ];
 
+// Kept: instruction_code and data_code differ in the table alone; a const parameter is a number, and each proof computes its table.
 fn instruction_code(code: u32) -> u32
     ensures { result ≡ mask_of (λ e. instruction_code e code) }
 {
@@ -170,6 +171,7 @@ fn data_code(code: u32) -> u32
 }
 
 // Bits 11:10: nothing, FnV of a synchronous external abort, or with RAS the AET of an SError interrupt.
+#[tactic(auto, unfolding(crate::specs::Edition::mask_of))]
 fn aet_rule(aet: u32, code: u32) -> u32
     ensures { result ≡ mask_of (λ e. aet_rule e aet code) }
 {
@@ -194,6 +196,7 @@ fn wnr_rule(wnr: bool, code: u32) -> u32
 }
 
 // The codes that a valid instruction syndrome goes with.
+#[tactic(auto, unfolding(crate::specs::Edition::mask_of))]
 fn isv_rule(isv: bool, code: u32) -> u32
     ensures { result ≡ mask_of (λ e. isv_code (ras e) isv code) }
 {

@@ -9,3 +9,4 @@ mod rules;
 pub use code::editions;
 pub use il::il_rule;
 pub use mask::known;
+pub use rules::{asynchronous, coproc_rule, no_syndrome_rule};

@@ -18,18 +18,21 @@ pub fn known(edition: u32) -> bool
     edition < EDITIONS
 }
 
+#[tactic(auto, unfolding(crate::specs::Edition::mask_of))]
 pub fn all_editions() -> u32
     ensures { result ≡ mask_of (λ e. true) }
 {
     ALL
 }
 
+#[tactic(auto, unfolding(crate::specs::Edition::mask_of))]
 pub fn ras_editions() -> u32
     ensures { result ≡ mask_of ras }
 {
     ALL - NO_RAS
 }
 
+#[tactic(auto, unfolding(crate::specs::Edition::mask_of))]
 pub fn no_ras_editions() -> u32
     ensures { result ≡ mask_of (λ e. not (ras e)) }
 {

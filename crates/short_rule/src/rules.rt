@@ -10,6 +10,7 @@ ghost use Rattle.short_rule.specs.Rule.{data_rule, layout_rule};
 use record::Origin;
 use short_record::{DataAbort, InstructionAbort, Ldc, Mcr, Mcrr, Record, Simd};
 
+// Kept: mcr, mcrr and ldc are layout_rule's but for the width of a register, of structs of their own (C-11.20).
 fn mcr(r: Mcr) -> bool
     ensures { result ≡ (fitting (mcr_fields r) && (condition_rule r.cv r.cond && direction_rule r.class r.direction)) }
 {
@@ -46,7 +47,7 @@ fn ldc(r: Ldc) -> bool
 }
 
 // TA goes with coproc 1010, and no TA with 0.
-fn coproc_rule(ta: bool, coproc: u32) -> bool
+pub fn coproc_rule(ta: bool, coproc: u32) -> bool
     ensures { result ≡ coproc_rule ta coproc }
 {
     if ta { coproc == 0b1010 } else { coproc == 0 }
@@ -70,11 +71,11 @@ fn instruction_abort(r: InstructionAbort) -> bool
 pub fn asynchronous(code: u32) -> bool
     ensures { result ≡ asynchronous code }
 {
-    (code == 0x11) | (code == 0x19)
+    matches!(code, 0x11 | 0x19)
 }
 
 // ISV 0: nothing is told of the instruction.
-fn no_syndrome_rule(r: DataAbort) -> bool
+pub fn no_syndrome_rule(r: DataAbort) -> bool
     ensures { result ≡ no_syndrome_rule r }
 {
     (r.sas == 0) & !r.sse & (r.srt == 0) & !r.ar

@@ -12,13 +12,13 @@ use Rattle.form.specs.Form as Form
 use Rattle.refusal_text.proofs.Why.{told}
 use Rattle.short.specs.Answer.{read_said}
 use Rattle.short.specs.Reading.{has_word, read_of}
-use Rattle.short.specs.declared.answer.Read.{Read}
 use Rattle.short.proofs.Refusals.{read_refused_exactly}
 use Rattle.short_reason.specs.Reason.{why_of}
 use Rattle.short_reason.proofs.Exact.{rule_numbers, why_number, none_broken}
 use Rattle.registers.specs.declared.Hsr.{Hsr}
+use Rattle.std.specs.Prelude.{Err}
 
-pub rule_named : (e : ℕ) (hsr : Hsr) → read_of e hsr ≡ Read.Refused NoEdition → why_of hsr.0 ≡ 0 → ⊥
+pub rule_named : (e : ℕ) (hsr : Hsr) → read_of e hsr ≡ Err NoEdition → why_of hsr.0 ≡ 0 → ⊥
 unfolding Form.has_word
 rule_named e hsr is why =
     let w = hsr.0 in
@@ -28,5 +28,5 @@ rule_named e hsr is why =
     true≢false (sym had.2 ∙ mask_zero 2 (λ x. has_word x w) none had.0 (ltb-true had.0 2 had.1))
 
 -- of which something is said
-pub rule_told : (e : ℕ) (hsr : Hsr) → read_of e hsr ≡ Read.Refused NoEdition → told (why_of hsr.0) ≡ true
+pub rule_told : (e : ℕ) (hsr : Hsr) → read_of e hsr ≡ Err NoEdition → told (why_of hsr.0) ≡ true
 rule_told e hsr is = among_all rule_numbers told tt (why_of hsr.0) (why_number hsr.0 (rule_named e hsr is))

@@ -17,7 +17,6 @@ use Rattle.edition.proofs.Masks.{mask_zero}
 use Rattle.refusal_text.specs.Feature.{fits, asked_by}
 use Rattle.refusal_text.specs.Refusal.{refusal_text}
 use Rattle.short.specs.Reading.{has_word, read_of}
-use Rattle.short.specs.declared.answer.Read.{Read}
 use Rattle.short.proofs.Demand2.{read_exactly, has_word_exactly}
 use Rattle.short.proofs.Refusals.{read_six_exactly}
 use Rattle.short_layout.specs.Fields.{record_word}
@@ -33,6 +32,7 @@ use Rattle.short_text.specs.Text.{record_text}
 use Rattle.short_text.specs.Inner.{word_text, others_lines, read_lines}
 use Rattle.short_text.specs.Said.{others_text, read_text}
 use Rattle.short_text.proofs.Record.{word_said_lem}
+use Rattle.std.specs.Prelude.{Result, Ok, Err}
 
 had_said : (e : ℕ) (r : Record) → has e r ≡ true → word_text (record_word r) ≡ record_text r
 had_said e r h = word_said_lem r (has_own e r h) (has_fits e r h)
@@ -48,12 +48,12 @@ both_told false true = tt
 both_told false false = tt
 
 module _ (e : ℕ) (hsr : Hsr) where
-  taken_said : (r : Record) → read_of e hsr ≡ Read.Taken r → word_text hsr.0 ≡ record_text r
+  taken_said : (r : Record) → read_of e hsr ≡ Ok r → word_text hsr.0 ≡ record_text r
   taken_said r is =
       let x = (read_exactly e hsr r).0 is in
       ap word_text (sym x.1) ∙ had_said e r x.0
 
-  six_said : (mask count : ℕ) → read_of e hsr ≡ Read.Refused (OtherEditions mask count) → word_text hsr.0 ≡ record_text (record_at hsr.0)
+  six_said : (mask count : ℕ) → read_of e hsr ≡ Err (OtherEditions mask count) → word_text hsr.0 ≡ record_text (record_at hsr.0)
   six_said mask count is =
       let some = ((read_six_exactly e hsr mask count).0 is).0.2 in
       let found = (has_word_exactly some.0 hsr.0).0 some.2 in
@@ -61,7 +61,7 @@ module _ (e : ℕ) (hsr : Hsr) where
       ap word_text (sym found.2) ∙ had_said some.0 r found.1
       ∙ ap record_text (sym (record_back r (has_own some.0 r found.1) (has_fits some.0 r found.1)) ∙ ap record_at found.2)
 
-  others_said : (refusal : Refusal) → read_of e hsr ≡ Read.Refused refusal → others_lines hsr.0 refusal ≡ others_text hsr.0 refusal
+  others_said : (refusal : Refusal) → read_of e hsr ≡ Err refusal → others_lines hsr.0 refusal ≡ others_text hsr.0 refusal
   others_said UnknownEdition is = refl
   others_said UpperHalf is = refl
   others_said UnknownClass is = refl
@@ -69,12 +69,12 @@ module _ (e : ℕ) (hsr : Hsr) where
   others_said NoEdition is = refl
   others_said (OtherEditions mask count) is = six_said mask count is
 
-  pub read_said_lem : (a : Read) → read_of e hsr ≡ a → read_lines hsr.0 a ≡ read_text hsr.0 a
-  read_said_lem (Read.Taken r) is = ap (λ (rest : List ℕ). ascii "taken\n" ++ rest) (taken_said r is)
-  read_said_lem (Read.Refused refusal) is = ap (λ (rest : List ℕ). refusal_text true refusal ++ rest) (others_said refusal is)
+  pub read_said_lem : (a : Result Record Refusal) → read_of e hsr ≡ a → read_lines hsr.0 a ≡ read_text hsr.0 a
+  read_said_lem (Ok r) is = ap (λ (rest : List ℕ). ascii "taken\n" ++ rest) (taken_said r is)
+  read_said_lem (Err refusal) is = ap (λ (rest : List ℕ). refusal_text true refusal ++ rest) (others_said refusal is)
 
   -- WITH REFUSAL 6 the editions that fit the feature that is named are exactly the mask's
-  pub named_exactly : (mask count : ℕ) → read_of e hsr ≡ Read.Refused (OtherEditions mask count) → mask_of (fits (asked_by true mask)) ≡ mask
+  pub named_exactly : (mask count : ℕ) → read_of e hsr ≡ Err (OtherEditions mask count) → mask_of (fits (asked_by true mask)) ≡ mask
   unfolding mask_of
   named_exactly mask count refused =
       let six = (read_six_exactly e hsr mask count).0 refused in

@@ -4,14 +4,15 @@
 
 ghost use Rattle.std.specs.Prelude.{◌<◌, ◌≡◌, ◌++◌, true};
 ghost use Rattle.refusal_text.specs.Refusal.{refusal_text};
-ghost use Rattle.text.specs.Append.{Appends};
+ghost use Rattle.text.specs.Append.{Extends};
 ghost use Rattle.text.specs.Ascii.{ascii};
 ghost use Rattle.short_text.specs.Inner.{shape_of, word_text, others_lines, read_lines};
 ghost use Rattle.short_text.specs.Said.{short_said};
 
 use edition::Refusal;
 use registers::Hsr;
-use short::Read;
+use short_record::Record;
+use text::Text;
 
 // The shape of a word by its class and fault code.
 fn shape(class: u32, code: u32) -> u32
@@ -26,56 +27,53 @@ fn shape(class: u32, code: u32) -> u32
 }
 
 // The fields of a word, by its class.
-fn word_lines(out: &mut [u8], at: usize, hsr: Hsr) -> usize
-    ensures { Appends (word_text hsr.0) out.old at out.new result }
+fn word_lines(text: &mut Text<'_>, hsr: Hsr)
+    ensures { Extends (word_text hsr.0) text.old text.new }
 {
     let word = hsr.0 as u64;
     let n = shape(bits::field32(word, 31, 26), bits::field32(word, 5, 0));
-    field_text::lines(out, at, n as usize, word)
+    field_text::lines(text, n as usize, word);
 }
 
 // A word that is taken.
-fn taken(out: &mut [u8], at: usize, hsr: Hsr) -> usize
-    ensures { Appends (ascii "taken\n" ++ word_text hsr.0) out.old at out.new result }
+fn taken(text: &mut Text<'_>, hsr: Hsr)
+    ensures { Extends (ascii "taken\n" ++ word_text hsr.0) text.old text.new }
 {
-    let word = text::append(out, at, b"taken\n");
-    word_lines(out, word, hsr)
+    text.append(b"taken\n");
+    word_lines(text, hsr);
 }
 
 // The fields of a word that the other edition has, and the rule that one breaks which none has.
-fn others(out: &mut [u8], at: usize, hsr: Hsr, refusal: Refusal) -> usize
-    ensures { Appends (others_lines hsr.0 refusal) out.old at out.new result }
+fn others(text: &mut Text<'_>, hsr: Hsr, refusal: Refusal)
+    ensures { Extends (others_lines hsr.0 refusal) text.old text.new }
 {
-    let number = edition::number(refusal);
-    if number == 6 {
-        return word_lines(out, at, hsr);
+    match refusal {
+        Refusal::OtherEditions(_, _) => word_lines(text, hsr),
+        Refusal::NoEdition => refusal_text::why_line(text, short_reason::why(hsr)),
+        _ => {}
     }
-    if number == 5 {
-        return refusal_text::why_line(out, at, short_reason::why(hsr));
-    }
-    at
 }
 
 // A word that is refused.
-fn refused(out: &mut [u8], at: usize, hsr: Hsr, refusal: Refusal) -> usize
-    ensures { Appends (refusal_text true refusal ++ others_lines hsr.0 refusal) out.old at out.new result }
+fn refused(text: &mut Text<'_>, hsr: Hsr, refusal: Refusal)
+    ensures { Extends (refusal_text true refusal ++ others_lines hsr.0 refusal) text.old text.new }
 {
-    let why = refusal_text::refusal_lines(out, at, true, refusal);
-    others(out, why, hsr, refusal)
+    refusal_text::refusal_lines(text, true, refusal);
+    others(text, hsr, refusal);
 }
 
-fn answer(out: &mut [u8], at: usize, hsr: Hsr, read: Read) -> usize
-    ensures { Appends (read_lines hsr.0 read) out.old at out.new result }
+fn answer(text: &mut Text<'_>, hsr: Hsr, read: Result<Record, Refusal>)
+    ensures { Extends (read_lines hsr.0 read) text.old text.new }
 {
     match read {
-        Read::Taken(_) => taken(out, at, hsr),
-        Read::Refused(refusal) => refused(out, at, hsr, refusal),
+        Ok(_) => taken(text, hsr),
+        Err(refusal) => refused(text, hsr, refusal),
     }
 }
 
 // What a short edition makes of a word.
-pub fn said(out: &mut [u8], at: usize, edition: u32, hsr: Hsr) -> usize
-    ensures { Appends (short_said edition hsr) out.old at out.new result }
+pub fn said(text: &mut Text<'_>, edition: u32, hsr: Hsr)
+    ensures { Extends (short_said edition hsr) text.old text.new }
 {
-    answer(out, at, hsr, short::read(edition, hsr))
+    answer(text, hsr, short::read(edition, hsr));
 }

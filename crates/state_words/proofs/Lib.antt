@@ -1,3 +1,2 @@
--- Laws that other crates cite, and one that the proofs here do.
-pub mod Copy
+-- Laws that other crates cite.
 pub mod RoundTrip

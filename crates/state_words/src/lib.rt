@@ -12,11 +12,7 @@ fn registers_in(words: [u32; 48]) -> [u32; 31]
     ensures { result ≡ take 31 words }
 {
     let mut regs = [0u32; 31];
-    let mut i = 0;
-    while i < 31 {
-        regs[i] = words[i];
-        i += 1;
-    }
+    regs.copy_from_slice(&words[..31]);
     regs
 }
 
@@ -46,16 +42,16 @@ fn faults_in(words: [u32; 48]) -> FaultRegisters
 pub fn is_mark(word: u32) -> bool
     ensures { result ≡ is_mark word }
 {
-    !(word == 0)
+    word != 0
 }
 
 fn marks_in(words: [u32; 48]) -> Marks
     ensures { result ≡ marks_of words }
 {
     Marks {
-        pan: !(words[45] == 0),
-        ssbs: !(words[46] == 0),
-        dit: !(words[47] == 0),
+        pan: is_mark(words[45]),
+        ssbs: is_mark(words[46]),
+        dit: is_mark(words[47]),
     }
 }
 
@@ -80,11 +76,7 @@ fn with_registers(words: [u32; 48], regs: [u32; 31]) -> [u32; 48]
     ensures { (length regs ≡ 31) × (result ≡ regs ++ drop 31 words) }
 {
     let mut after = words;
-    let mut i = 0;
-    while i < 31 {
-        after[i] = regs[i];
-        i += 1;
-    }
+    after[..31].copy_from_slice(&regs);
     after
 }
 
@@ -92,21 +84,18 @@ fn with_registers(words: [u32; 48], regs: [u32; 31]) -> [u32; 48]
 pub fn words_of(words: [u32; 48], state: Guest) -> [u32; 48]
     ensures { result ≡ words_of words state }
 {
-    let regs = state.regs;
-    let saved = state.saved;
-    let faults = state.faults;
-    let mut after = with_registers(words, regs);
+    let mut after = with_registers(words, state.regs);
     after[31] = state.pc;
     after[32] = state.status;
-    after[33] = saved.fiq;
-    after[34] = saved.irq;
-    after[35] = saved.svc;
-    after[36] = saved.abt;
-    after[37] = saved.und;
-    after[38] = faults.dfsr;
-    after[39] = faults.ifsr;
-    after[40] = faults.dfar;
-    after[41] = faults.ifar;
+    after[33] = state.saved.fiq;
+    after[34] = state.saved.irq;
+    after[35] = state.saved.svc;
+    after[36] = state.saved.abt;
+    after[37] = state.saved.und;
+    after[38] = state.faults.dfsr;
+    after[39] = state.faults.ifsr;
+    after[40] = state.faults.dfar;
+    after[41] = state.faults.ifar;
     after[42] = state.sctlr;
     after[43] = state.vbar;
     after[44] = state.ttbcr;

@@ -1,4 +1,5 @@
 -- Laws of the hypervisor's saved word as a status word.
+use Rattle.std.specs.Prelude.{Option, Some, None}
 use mathlib.Core.Path.{◌≡◌, refl}
 use mathlib.Core.List.{[], ◌∷◌}
 use mathlib.Core.Logic.{◌↔◌}
@@ -7,16 +8,14 @@ use native.Mathlib.Omega.{arith}
 use Rattle.bits.specs.Decide.{needs, FirstFails}
 use Rattle.bits.specs.Field.{field_of}
 use Rattle.promise.proofs.Promises.{first_exactly, by_tests}
-use Rattle.status.specs.declared.FromSpsr.{FromSpsr}
-use Rattle.status.specs.declared.FromSpsr.TheVariants.{Status, Unsound}
 use Rattle.status.specs.declared.Marks.{Marks}
 use Rattle.status.specs.Sound.{sound}
 use Rattle.status.specs.Spsr.{spsr_status, from_spsr, spsr_numbers, spsr_number, SpsrPromise}
 
 -- what the call promises, by its equation alone
-pub promised : (marks : Marks) (w : ℕ) {r : FromSpsr} → r ≡ from_spsr marks w → SpsrPromise marks w r
+pub promised : (marks : Marks) (w : ℕ) {r : Option ℕ} → r ≡ from_spsr marks w → SpsrPromise marks w r
 unfolding from_spsr
-promised marks w = by_tests spsr_number (needs (sound marks (spsr_status w)) Unsound ∷ []) (Status (spsr_status w)) refl refl
+promised marks w = by_tests spsr_number (needs (sound marks (spsr_status w)) None ∷ []) (Some (spsr_status w)) refl refl
 
 -- 9 exactly when the word that is made isn't sound
 pub spsr_decided : (marks : Marks) (w k : ℕ) → (spsr_number (from_spsr marks w) ≡ k) ↔ FirstFails k (spsr_numbers marks w)

@@ -1,5 +1,6 @@
 -- Laws of the status word as the word that the hypervisor's return takes: there and back is the word, and back and there is the saved word
 -- with SS dropped.
+use Rattle.std.specs.Prelude.{Option, Some, None}
 use mathlib.Core.Path.{◌≡◌, refl, sym, ap, ap₂, ◌∙◌}
 use mathlib.Core.Bool.{Bool, true, false, not, ◌&&◌, cond}
 use mathlib.Core.List.{[], ◌∷◌}
@@ -12,21 +13,19 @@ use Rattle.bits.specs.Field.{field_of, bit_of}
 use Rattle.bits.proofs.Arms.{absurd_answer}
 use Rattle.bits.proofs.Booleans.{and_left, and_right}
 use Rattle.promise.proofs.Promises.{first_exactly, by_tests}
-use Rattle.status.specs.declared.FromSpsr.{FromSpsr}
-use Rattle.status.specs.declared.ToSpsr.{ToSpsr}
 use Rattle.status.specs.declared.Marks.{Marks}
 use Rattle.status.specs.Mode.{is_mode}
 use Rattle.status.specs.Sound.{allowed, sound}
-use Rattle.status.specs.Spsr.{spsr_status, from_spsr, status_spsr, to_spsr, without_ss, to_spsr_numbers, to_spsr_number, ToSpsrPromise}
+use Rattle.status.specs.Spsr.{spsr_status, from_spsr, status_spsr, to_spsr, without_ss, spsr_number, to_spsr_numbers, ToSpsrPromise}
 use Rattle.status.proofs.Saved.{moved}
 
 -- what the call promises, by its equation alone
-pub promised : (marks : Marks) (w : ℕ) {r : ToSpsr} → r ≡ to_spsr marks w → ToSpsrPromise marks w r
+pub promised : (marks : Marks) (w : ℕ) {r : Option ℕ} → r ≡ to_spsr marks w → ToSpsrPromise marks w r
 unfolding to_spsr
-promised marks w = by_tests to_spsr_number (needs (sound marks w) ToSpsr.Unsound ∷ []) (ToSpsr.Spsr (status_spsr w)) refl refl
+promised marks w = by_tests spsr_number (needs (sound marks w) None ∷ []) (Some (status_spsr w)) refl refl
 
 -- 9 exactly when the word isn't sound
-pub to_spsr_decided : (marks : Marks) (w k : ℕ) → (to_spsr_number (to_spsr marks w) ≡ k) ↔ FirstFails k (to_spsr_numbers marks w)
+pub to_spsr_decided : (marks : Marks) (w k : ℕ) → (spsr_number (to_spsr marks w) ≡ k) ↔ FirstFails k (to_spsr_numbers marks w)
 to_spsr_decided marks w = first_exactly (to_spsr_numbers marks w) tt (promised marks w refl)
 
 -- a sum of the fields, each in its place and within its width: 31:25, 24, 23:22, 21 and 20:0
@@ -102,14 +101,14 @@ added : {h h' k k' d d' l l' : ℕ} → h ≡ h' → k ≡ k' → d ≡ d' → l
 added eh ek ed el = rw (eh, ek, ed, el)
 
 -- THERE AND BACK is the word
-pub there_and_back : (marks : Marks) (w : ℕ) → w < 2 ^ 32 → sound marks w ≡ true → from_spsr marks (status_spsr w) ≡ FromSpsr.Status w
+pub there_and_back : (marks : Marks) (w : ℕ) → w < 2 ^ 32 → sound marks w ≡ true → from_spsr marks (status_spsr w) ≡ Some w
 unfolding from_spsr spsr_status
 there_and_back marks w below t =
     let v = written w in
     let same : spsr_status (status_spsr w) ≡ w =
     added v.kept31_25 v.kept23_22 v.dit24 v.low20_0 ∙ whole w below (no_24 marks w t) in
-    ap (λ (n : ℕ). cond (sound marks n) (FromSpsr.Status n) FromSpsr.Unsound) same
-    ∙ ap (λ (b : Bool). cond b (FromSpsr.Status w) FromSpsr.Unsound) t
+    ap (λ (n : ℕ). cond (sound marks n) (Some n) None) same
+    ∙ ap (λ (b : Bool). cond b (Some w) None) t
 
 -- ---- back and there
 
@@ -138,22 +137,18 @@ parts v eh ed ek el =
     rw (eh, ed, ek, el) (scaled (field_of v 31 22) (field_of v 31 25) (field_of v 24 24) (field_of v 23 22) (field_of v 20 0) (upper v))
 
 -- what was taken is a sound word, which is the one that was made
-taken : (b : Bool) (x w : ℕ) → cond b (FromSpsr.Status x) FromSpsr.Unsound ≡ FromSpsr.Status w → (b ≡ true) × (x ≡ w)
-taken true x w e = (refl, ap (λ (r : FromSpsr). status_in r) e)
-  where
-    status_in : FromSpsr → ℕ
-    status_in (FromSpsr.Status n) = n
-    status_in FromSpsr.Unsound = 0
+taken : (b : Bool) (x w : ℕ) → cond b (Some x) None ≡ Some w → (b ≡ true) × (x ≡ w)
+taken true x w e = (refl, cc e)
 taken false x w e = absurd_answer (cc e)
 
 -- BACK AND THERE is the saved word with SS dropped
-pub back_and_there : (marks : Marks) (v w : ℕ) → from_spsr marks v ≡ FromSpsr.Status w → to_spsr marks w ≡ ToSpsr.Spsr (without_ss v)
+pub back_and_there : (marks : Marks) (v w : ℕ) → from_spsr marks v ≡ Some w → to_spsr marks w ≡ Some (without_ss v)
 unfolding from_spsr to_spsr status_spsr
 back_and_there marks v w e =
     let t = taken (sound marks (spsr_status v)) (spsr_status v) w e in
     let m = moved v in
     let same : status_spsr (spsr_status v) ≡ without_ss v =
     parts v m.kept31_25 m.dit21 m.kept23_22 m.low20_0 in
-    ap (λ (n : ℕ). cond (sound marks n) (ToSpsr.Spsr (status_spsr n)) ToSpsr.Unsound) (sym t.1)
-    ∙ ap (λ (b : Bool). cond b (ToSpsr.Spsr (status_spsr (spsr_status v))) ToSpsr.Unsound) t.0
-    ∙ ap ToSpsr.Spsr same
+    ap (λ (n : ℕ). cond (sound marks n) (Some (status_spsr n)) None) (sym t.1)
+    ∙ ap (λ (b : Bool). cond b (Some (status_spsr (spsr_status v))) None) t.0
+    ∙ ap Some same

@@ -1,7 +1,6 @@
 -- The register of a mode (requests C-11 and C-18 of document 02; the manual's mapping of AArch32 general-purpose registers to AArch64
 -- ones): which of the 31 registers in the AArch64 numbering holds R0 to R14 of a mode.
-use Rattle.std.specs.Prelude.{ℕ, ◌+◌, cond, ◌&&◌, eqb, leb}
-use Rattle.status.specs.declared.Held.{Held}
+use Rattle.std.specs.Prelude.{ℕ, ◌+◌, cond, ◌&&◌, eqb, leb, Option, Some, None}
 use Rattle.status.specs.Mode.{is_mode}
 
 -- what FIQ, IRQ, Supervisor, Abort and Undefined have of their own; User and System share the last
@@ -23,5 +22,5 @@ register_number mode n =
     (cond (eqb n 14) (link_register mode) (cond (eqb mode 0x11 && leb 8 n && leb n 12) (n + 16) n))
 
 -- a mode that isn't accepted holds no register, and no mode holds a register above R14: R15 is the PC
-abbrev pub held_in : ℕ → ℕ → Held
-held_in mode n = cond (is_mode mode && leb n 14) (Held.Register (register_number mode n)) Held.Nowhere
+abbrev pub held_in : ℕ → ℕ → Option ℕ
+held_in mode n = cond (is_mode mode && leb n 14) (Some (register_number mode n)) None

@@ -1,11 +1,8 @@
 -- The hypervisor's 32-bit saved word as a status word (02, C-15), a status word as a saved word, and what the two calls promise.
-use Rattle.std.specs.Prelude.{cond, List, [], ◌∷◌, ℕ, ◌+◌, ◌*◌, ◌^◌}
+use Rattle.std.specs.Prelude.{cond, List, [], ◌∷◌, ℕ, ◌+◌, ◌*◌, ◌^◌, Option, Some, None}
 use Rattle.bits.specs.Decide.{Test, needs}
 use Rattle.bits.specs.Field.{field_of}
 use Rattle.promise.specs.Promise.{Answers}
-use Rattle.status.specs.declared.FromSpsr.{FromSpsr}
-use Rattle.status.specs.declared.FromSpsr.TheVariants.{Status, Unsound}
-use Rattle.status.specs.declared.ToSpsr.{ToSpsr}
 use Rattle.status.specs.declared.Marks.{Marks}
 use Rattle.status.specs.Base.{kept}
 use Rattle.status.specs.Sound.{sound}
@@ -19,18 +16,18 @@ spsr_status w =
     + kept w 20 0
 
 -- 9 is tested on the word that was made
-unfoldable pub from_spsr : Marks → ℕ → FromSpsr
-from_spsr marks w = cond (sound marks (spsr_status w)) (Status (spsr_status w)) Unsound
+unfoldable pub from_spsr : Marks → ℕ → Option ℕ
+from_spsr marks w = cond (sound marks (spsr_status w)) (Some (spsr_status w)) None
 
 abbrev pub spsr_numbers : Marks → ℕ → List (Test ℕ)
 spsr_numbers marks w = needs (sound marks (spsr_status w)) 9 ∷ []
 
--- the number of each answer
-abbrev pub spsr_number : FromSpsr → ℕ
-spsr_number (Status w) = 0
-spsr_number Unsound = 9
+-- the number of each answer, here and back
+abbrev pub spsr_number : Option ℕ → ℕ
+spsr_number (Some w) = 0
+spsr_number None = 9
 
-abbrev pub SpsrPromise : Marks → ℕ → FromSpsr → Type 0
+abbrev pub SpsrPromise : Marks → ℕ → Option ℕ → Type 0
 SpsrPromise marks w = Answers spsr_number (from_spsr marks w) (spsr_numbers marks w)
 
 -- ---- back
@@ -48,16 +45,11 @@ abbrev pub without_ss : ℕ → ℕ
 without_ss w = kept w 31 22 + kept w 20 0
 
 -- 9 is tested on the word that is handed in
-unfoldable pub to_spsr : Marks → ℕ → ToSpsr
-to_spsr marks w = cond (sound marks w) (ToSpsr.Spsr (status_spsr w)) ToSpsr.Unsound
+unfoldable pub to_spsr : Marks → ℕ → Option ℕ
+to_spsr marks w = cond (sound marks w) (Some (status_spsr w)) None
 
 abbrev pub to_spsr_numbers : Marks → ℕ → List (Test ℕ)
 to_spsr_numbers marks w = needs (sound marks w) 9 ∷ []
 
--- the number of each answer
-abbrev pub to_spsr_number : ToSpsr → ℕ
-to_spsr_number (ToSpsr.Spsr w) = 0
-to_spsr_number ToSpsr.Unsound = 9
-
-abbrev pub ToSpsrPromise : Marks → ℕ → ToSpsr → Type 0
-ToSpsrPromise marks w = Answers to_spsr_number (to_spsr marks w) (to_spsr_numbers marks w)
+abbrev pub ToSpsrPromise : Marks → ℕ → Option ℕ → Type 0
+ToSpsrPromise marks w = Answers spsr_number (to_spsr marks w) (to_spsr_numbers marks w)

@@ -2,11 +2,10 @@
 // word that the hypervisor saved of it.
 #![tactic(auto)]
 
-ghost use Rattle.std.specs.Prelude.{◌≡◌, ◌*◌, ◌^◌};
+ghost use Rattle.std.specs.Prelude.{◌≡◌, ◌*◌, ◌^◌, ◌/◌, ◌%◌, ◌<◌, cond};
 ghost use Rattle.status.specs.Mode.{is_mode, mode_number};
 ghost use Rattle.status.specs.Sound.{allowed, sound};
-ghost use Rattle.status.specs.Base.{entry_a};
-ghost use Rattle.status.specs.Entry.{t32, entry_f, entry_pan, entry_ssbs, entry_status};
+ghost use Rattle.status.specs.Entry.{t32, entry_pan, entry_ssbs, entry_status};
 ghost use Rattle.status.specs.It.{it_of, it_advance, with_it, it_advanced};
 ghost use Rattle.status.specs.Spsr.{spsr_status, SpsrPromise, status_spsr, ToSpsrPromise};
 ghost use Rattle.status.specs.Register.{by_mode, link_register, register_number, held_in};
@@ -23,13 +22,6 @@ pub enum Mode {
     Irq,
 }
 
-// Where a register of the guest is held: its AArch64 number.
-#[derive(Clone, Copy)]
-pub enum Held {
-    Register(u32),
-    Nowhere,
-}
-
 // The features whose bits a guest's status word has.
 #[derive(Clone, Copy)]
 pub struct Marks {
@@ -37,25 +29,6 @@ pub struct Marks {
     pub ssbs: bool,
     pub dit: bool,
 }
-
-// What the hypervisor's saved word is as a status word of the guest.
-#[derive(Clone, Copy)]
-pub enum FromSpsr {
-    Status(u32),
-    // Its mode, or a bit of its 24:21, is wrong.
-    Unsound,
-}
-
-// What a status word of the guest is as the word that the hypervisor's return takes.
-#[derive(Clone, Copy)]
-pub enum ToSpsr {
-    Spsr(u32),
-    // Its mode, or a bit of its 24:21, is wrong.
-    Unsound,
-}
-
-// Bit m is set for each mode m that a guest runs in.
-const MODES: u64 = 0x888F_0000;
 
 // N, Z, C, V and Q.
 const FLAGS: u32 = 0xF800_0000;
@@ -65,17 +38,11 @@ const J: u32 = 0x0100_0000;
 
 const SSBS: u32 = 0x0080_0000;
 
-const PAN: u32 = 0x0040_0000;
-
 const DIT: u32 = 0x0020_0000;
 
 const GE: u32 = 0x000F_0000;
 
-const A: u32 = 0x100;
-
 const I: u32 = 0x80;
-
-const F: u32 = 0x40;
 
 // SCTLR.EE and SCTLR.TE: E and T of an exception's handler.
 const EE: u32 = 0x0200_0000;
@@ -93,11 +60,12 @@ fn allowed(marked: bool, set: bool) -> bool
 }
 
 // A status word that a guest can have: an accepted mode in bits 4:0, and no bit of 24:21 but those of its features.
+#[tactic(auto, using(crate::proofs::Masks::mode_field), unfolding(crate::specs::Sound::sound))]
 pub fn sound(marks: Marks, status: u32) -> bool
     ensures { result ≡ sound marks status }
 {
     let word = status as u64;
-    bit(MODES, status & 0x1F)
+    is_mode(status & 0x1F)
         & allowed(false, bit(word, 24))
         & allowed(marks.ssbs, bit(word, 23))
         & allowed(marks.pan, bit(word, 22))
@@ -124,29 +92,21 @@ fn mode_number(mode: Mode) -> u32
     }
 }
 
-// A, set or kept.
-fn entry_a(set: bool, old: u32) -> u32
-    ensures { result ≡ entry_a set old * 2 ^ 8 }
+// A bit in its place, set or kept.
+#[tactic(auto, using(crate::proofs::Masks::kept_bit))]
+fn set_or_kept(set: bool, old: u32, place: u32) -> u32
+    requires { place < 32 }
+    ensures { result ≡ cond set 1 (old / 2 ^ place % 2) * 2 ^ place }
 {
-    if set { A } else { old & A }
-}
-
-// F, set or kept.
-fn entry_f(set: bool, old: u32) -> u32
-    ensures { result ≡ entry_f set old * 2 ^ 6 }
-{
-    if set { F } else { old & F }
+    let bit = 1 << place;
+    if set { bit } else { old & bit }
 }
 
 // PAN, which SCTLR.SPAN, bit 23, leaves as it was.
 fn entry_pan(marked: bool, old: u32, sctlr: u32) -> u32
     ensures { result ≡ entry_pan marked old sctlr * 2 ^ 22 }
 {
-    if marked & !bit(sctlr as u64, 23) {
-        PAN
-    } else {
-        old & PAN
-    }
+    set_or_kept(marked & !bit(sctlr as u64, 23), old, 22)
 }
 
 fn entry_ssbs(marked: bool, old: u32, sctlr: u32) -> u32
@@ -170,18 +130,19 @@ pub fn entry_status(marks: Marks, mode: Mode, a: bool, f: bool, old: u32, sctlr:
         | (old & DIT)
         | (old & GE)
         | ((sctlr & EE) >> 16)
-        | entry_a(a, old)
+        | set_or_kept(a, old, 8)
         | I
-        | entry_f(f, old)
+        | set_or_kept(f, old, 6)
         | ((sctlr & TE) >> 25)
         | mode_number(mode)
 }
 
 // Whether the number is that of a mode that a guest runs in.
+#[tactic(auto, unfolding(crate::specs::Mode::is_mode))]
 pub fn is_mode(mode: u32) -> bool
     ensures { result ≡ is_mode mode }
 {
-    bit(MODES, mode)
+    matches!(mode, 0x10 | 0x11 | 0x12 | 0x13 | 0x17 | 0x1B | 0x1F)
 }
 
 // What a mode has of its own; User and System share the last.
@@ -206,6 +167,7 @@ pub fn link_register(mode: u32) -> u32
 }
 
 // The AArch64 number of a register of a mode.
+#[tactic(auto, unfolding(crate::specs::Register::register_number))]
 fn number_in(mode: u32, number: u32) -> u32
     ensures { result ≡ register_number mode number }
 {
@@ -221,13 +183,13 @@ fn number_in(mode: u32, number: u32) -> u32
 }
 
 // Which AArch64 register holds a register of a mode, by the manual's mapping: nowhere above R14, or in a mode that no guest runs in.
-pub fn held_in(mode: u32, number: u32) -> Held
+pub fn held_in(mode: u32, number: u32) -> Option<u32>
     ensures { result ≡ held_in mode number }
 {
     if is_mode(mode) & (number <= 14) {
-        Held::Register(number_in(mode, number))
+        Some(number_in(mode, number))
     } else {
-        Held::Nowhere
+        None
     }
 }
 
@@ -238,16 +200,13 @@ fn spsr_status(spsr: u32) -> u32
     (spsr & 0xFE00_0000) | (spsr & 0x00C0_0000) | ((spsr & 0x0100_0000) >> 3) | (spsr & 0x001F_FFFF)
 }
 
-// The guest's status word, from the word that the hypervisor saved of it (SPSR_EL2).
-pub fn from_spsr(marks: Marks, spsr: u32) -> FromSpsr
+// The guest's status word, from the word that the hypervisor saved of it (SPSR_EL2): none where its mode, or a bit of its 24:21, is wrong.
+#[tactic(auto, using(crate::proofs::Saved::promised), unfolding(crate::specs::Spsr::from_spsr))]
+pub fn from_spsr(marks: Marks, spsr: u32) -> Option<u32>
     ensures { SpsrPromise marks spsr result }
 {
     let word = spsr_status(spsr);
-    if sound(marks, word) {
-        FromSpsr::Status(word)
-    } else {
-        FromSpsr::Unsound
-    }
+    if sound(marks, word) { Some(word) } else { None }
 }
 
 // The status word with DIT, bit 21, in its place of a saved word, bit 24; SS, bit 21 there, is 0.
@@ -257,14 +216,15 @@ fn status_spsr(status: u32) -> u32
     (status & 0xFE00_0000) | ((status & DIT) << 3) | (status & 0x00C0_0000) | (status & 0x001F_FFFF)
 }
 
-// The word to write into SPSR_EL2, from the guest's status word.
-pub fn to_spsr(marks: Marks, status: u32) -> ToSpsr
+// The word to write into SPSR_EL2, from the guest's status word: none where its mode, or a bit of its 24:21, is wrong.
+#[tactic(auto, using(crate::proofs::Written::promised), unfolding(crate::specs::Spsr::to_spsr))]
+pub fn to_spsr(marks: Marks, status: u32) -> Option<u32>
     ensures { ToSpsrPromise marks status result }
 {
     if sound(marks, status) {
-        ToSpsr::Spsr(status_spsr(status))
+        Some(status_spsr(status))
     } else {
-        ToSpsr::Unsound
+        None
     }
 }
 

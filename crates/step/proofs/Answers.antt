@@ -1,5 +1,6 @@
 -- Laws of the answer to a step, and of the state beside it, for every record and state.
-use Rattle.std.proofs.Common.{◌≡◌, ℕ, true, false, T, ◌↔◌, [], ◌∷◌, refl}
+use Rattle.std.specs.Prelude.{⊤}
+use Rattle.std.proofs.Common.{◌≡◌, ℕ, Ok, true, false, T, ◌↔◌, [], ◌∷◌, refl}
 use Rattle.bits.specs.Among.{among}
 use Rattle.bits.specs.Decide.{decide, FirstFails}
 use Rattle.bits.proofs.Deciding.{answer_is}
@@ -8,14 +9,14 @@ use Rattle.record.specs.Class.{head_of}
 use Rattle.record.specs.declared.kinds.Record.{Record}
 use Rattle.status.specs.Sound.{sound}
 use Rattle.exception.specs.declared.state.Guest.{Guest}
-use Rattle.step.specs.declared.over.Answer.TheVariants.{Stepped, NoEdition, UnsoundStatus, NotStepped}
-use Rattle.step.specs.declared.over.SteppedOver.{SteppedOver}
+use Rattle.step.specs.declared.over.Onward.{Onward}
+use Rattle.step.specs.declared.refusal.OnwardRefusal.TheVariants.{NoEdition}
 use Rattle.step.specs.Step.{stepped}
 use Rattle.step.specs.Over.{number_stepped, had, is_stepped_over, step_numbers, refusing, step_tests, stepped_over}
 use Rattle.step.specs.Promise.{StepPromise}
 
-abbrev pub took : Guest → SteppedOver
-took s = record { answer = Stepped; state = s }
+abbrev pub took : Guest → Onward ⊤
+took s = record { answer = Ok tt; state = s }
 
 -- ---- the ways through the tests
 
@@ -23,15 +24,6 @@ module _ (s : Guest) (r : Record) where
   pub no_edition : had r ≡ false → refusing NoEdition s ≡ stepped_over s r
   unfolding stepped_over
   no_edition e = rw e
-
-  pub unsound : had r ≡ true → sound s.marks s.status ≡ false → refusing UnsoundStatus s ≡ stepped_over s r
-  unfolding stepped_over
-  unsound e d = rw (e, d)
-
-  pub not_stepped : had r ≡ true → sound s.marks s.status ≡ true → is_stepped_over s.status r ≡ false
-      → refusing NotStepped s ≡ stepped_over s r
-  unfolding stepped_over
-  not_stepped e d o = rw (e, d, o)
 
   pub settled : had r ≡ true → sound s.marks s.status ≡ true → is_stepped_over s.status r ≡ true
       → took (stepped s s.regs (head_of r).il) ≡ stepped_over s r
@@ -41,7 +33,7 @@ module _ (s : Guest) (r : Record) where
 -- ---- the first test that fails gives the number
 
 -- what the calls promise of the answer and the state, by their equation alone
-pub promised : (s : Guest) (r : Record) {d : SteppedOver} → d ≡ stepped_over s r → StepPromise s r d
+pub promised : (s : Guest) (r : Record) {d : Onward ⊤} → d ≡ stepped_over s r → StepPromise s r d
 unfolding stepped_over
 promised s r = by_tests number_stepped (step_tests s r) (took (stepped s s.regs (head_of r).il)) refl refl
 
@@ -49,7 +41,7 @@ promised s r = by_tests number_stepped (step_tests s r) (took (stepped s s.regs 
 pub refused_untouched : (s : Guest) (r : Record) → (number_stepped (stepped_over s r) ≡ 0 → ⊥) → (stepped_over s r).state ≡ s
 unfolding stepped_over
 refused_untouched s r =
-    answer_is (λ (d : SteppedOver). (number_stepped d ≡ 0 → ⊥) → d.state ≡ s) (step_tests s r) (took (stepped s s.regs (head_of r).il))
+    answer_is (λ (d : Onward ⊤). (number_stepped d ≡ 0 → ⊥) → d.state ≡ s) (step_tests s r) (took (stepped s s.regs (head_of r).il))
     (λ n. refl, (λ n. refl, (λ n. refl, tt))) (λ n. absurd (n refl))
 
 -- stepping over an instruction answers 0, 5, 9 or 18

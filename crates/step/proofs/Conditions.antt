@@ -1,12 +1,11 @@
 -- The sixteen conditions, one by one, and what passes: for every status word.
-use Rattle.std.proofs.Common.{◌≡◌, ℕ, Bool, true, false, cond, not, ◌&&◌, eqb, refl, ap, ◌∙◌, ap₂}
+use Rattle.std.proofs.Common.{◌≡◌, ℕ, None, Bool, true, false, cond, not, ◌&&◌, eqb, refl, ap, ◌∙◌, ap₂}
 use Rattle.bits.specs.Field.{field_of, bit_of}
 use Rattle.record.specs.declared.kinds.Record.{Record}
 use Rattle.record.specs.declared.kinds.Smc.{Smc}
 use Rattle.status.specs.Entry.{t32}
 use Rattle.status.specs.It.{it_of}
-use Rattle.step.specs.declared.condition.Condition.TheVariants.{Passed, Stated}
-use Rattle.step.specs.Condition.{condition_of, same, condition_holds, current_condition, passes_by, passes}
+use Rattle.step.specs.Condition.{stated, condition_of, same, condition_holds, current_condition, passes_by, passes}
 
 module _ (w : ℕ) where
   -- N of a status word
@@ -92,12 +91,12 @@ module _ (w : ℕ) where
 -- ---- what passes
 
 -- a record without a condition passes, and so does an SMC that is known to have passed its own
-pub unconditional : (w : ℕ) (r : Record) → condition_of r ≡ Passed → passes w r ≡ true
+pub unconditional : (w : ℕ) (r : Record) → condition_of r ≡ None → passes w r ≡ true
 unfolding passes
 unconditional w r e = ap (passes_by w) e
 
 pub known_passed : (w : ℕ) (r : Smc) → r.ccknownpass ≡ false → passes w (Record.Smc r) ≡ true
-known_passed w r e = unconditional w (Record.Smc r) (ap (λ (b : Bool). cond b (Stated r.cv r.cond) Passed) e)
+known_passed w r e = unconditional w (Record.Smc r) (ap (λ (b : Bool). cond b (stated r.cv r.cond) None) e)
 
 -- the instruction stands in an IT block
 abbrev pub in_block : ℕ → Bool
@@ -105,15 +104,15 @@ in_block w = not (eqb (field_of (it_of w) 3 0) 0)
 
 -- CV 1: COND says; CV 0: IT says in an IT block of a guest in T32 state, and else the instruction passes
 module _ (w : ℕ) (r : Record) {cond-field : ℕ} where
-  pub by_cond : condition_of r ≡ Stated true cond-field → passes w r ≡ condition_holds cond-field w
+  pub by_cond : condition_of r ≡ stated true cond-field → passes w r ≡ condition_holds cond-field w
   unfolding passes
   by_cond e = ap (passes_by w) e
 
-  by_status : condition_of r ≡ Stated false cond-field → passes w r ≡ condition_holds (current_condition w) w
+  by_status : condition_of r ≡ stated false cond-field → passes w r ≡ condition_holds (current_condition w) w
   unfolding passes
   by_status e = ap (passes_by w) e
 
-  pub by_it : condition_of r ≡ Stated false cond-field → t32 w ≡ true → in_block w ≡ true
+  pub by_it : condition_of r ≡ stated false cond-field → t32 w ≡ true → in_block w ≡ true
       → passes w r ≡ condition_holds (field_of (it_of w) 7 4) w
   by_it e t b =
       by_status e ∙ ap (λ (x : Bool). condition_holds (cond x (field_of (it_of w) 7 4) 0b1110) w) (both t b)
@@ -121,6 +120,6 @@ module _ (w : ℕ) (r : Record) {cond-field : ℕ} where
       both : t32 w ≡ true → in_block w ≡ true → (t32 w && in_block w) ≡ true
       both p q = ap₂ ◌&&◌ p q
 
-  pub a32_passes : condition_of r ≡ Stated false cond-field → t32 w ≡ false → passes w r ≡ true
+  pub a32_passes : condition_of r ≡ stated false cond-field → t32 w ≡ false → passes w r ≡ true
   a32_passes e t =
       by_status e ∙ ap (λ (x : Bool). condition_holds (cond (x && in_block w) (field_of (it_of w) 7 4) 0b1110) w) t ∙ al w

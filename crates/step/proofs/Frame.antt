@@ -1,4 +1,5 @@
 -- What a step leaves alone, and what it makes: for every state and record.
+use Rattle.std.specs.Prelude.{⊤}
 use Rattle.std.proofs.Common.{◌≡◌, ℕ, ◌+◌, ◌%◌, ◌^◌, Bool, true, false, not, ◌||◌, List, [], ◌∷◌, refl, ap, ◌∙◌}
 use Rattle.bits.specs.Among.{among}
 use Rattle.bits.proofs.Deciding.{answer_is}
@@ -8,7 +9,7 @@ use Rattle.status.specs.Sound.{sound}
 use Rattle.status.specs.It.{it_of, it_advance, it_advanced}
 use Rattle.status.proofs.Advance.{Advanced, with_it_lem, sound_advanced}
 use Rattle.exception.specs.declared.state.Guest.{Guest}
-use Rattle.step.specs.declared.over.SteppedOver.{SteppedOver}
+use Rattle.step.specs.declared.over.Onward.{Onward}
 use Rattle.step.specs.Condition.{passes}
 use Rattle.step.specs.Step.{bytes_of, stepped}
 use Rattle.step.specs.Over.{had, maintains, is_stepped_over, step_tests, stepped_over}
@@ -58,7 +59,7 @@ pub record Unmoved (s after : Guest) : Type 0 where
 pub frame_kept : (s : Guest) (r : Record) → Unmoved s (stepped_over s r).state
 unfolding stepped_over
 frame_kept s r =
-    answer_is (λ (d : SteppedOver). Unmoved s d.state) (step_tests s r) (took (stepped s s.regs (head_of r).il))
+    answer_is (λ (d : Onward ⊤). Unmoved s d.state) (step_tests s r) (took (stepped s s.regs (head_of r).il))
     (still, (still, (still, tt)))
     record { regs = registers_given s s.regs (head_of r).il; kept = (steps s s.regs (head_of r).il).kept }
   where
@@ -95,7 +96,7 @@ module _ (s : Guest) (r : Record) where
   pub failed_step : had r ≡ true → sound s.marks s.status ≡ true → passes s.status r ≡ false
       → PcAndIt s (stepped_over s r).state (head_of r).il
   failed_step h d e =
-      subst_state (ap (λ (x : SteppedOver). x.state) (settled s r h d (failed_stepped e)))
+      subst_state (ap (λ (x : Onward ⊤). x.state) (settled s r h d (failed_stepped e)))
     where
       subst_state : {after : Guest} → stepped s s.regs (head_of r).il ≡ after → PcAndIt s after (head_of r).il
       subst_state q = rw q at (over s r)

@@ -1,30 +1,32 @@
 -- Whether a trapped instruction counts (the manual's ConditionHolds and CurrentCond; 001, CV and COND): one whose condition fails does
 -- nothing, and is stepped over.
-use Rattle.std.specs.Prelude.{ℕ, Bool, true, cond, not, ◌&&◌, ◌==◌}
+use Rattle.std.specs.Prelude.{ℕ, Option, Some, None, Bool, true, cond, not, ◌&&◌, ◌==◌}
 use Rattle.bits.specs.Field.{field_of, bit_of}
 use Rattle.record.specs.declared.kinds.Record.{Record}
 use Rattle.status.specs.Entry.{t32}
 use Rattle.status.specs.It.{it_of}
 use Rattle.step.specs.declared.condition.Condition.{Condition}
-use Rattle.step.specs.declared.condition.Condition.TheVariants.{Passed, Stated}
 
 -- what a record says of its instruction's condition: CV and COND, or that it has none; an SMC with CCKNOWNPASS 0 is known to have passed it
-abbrev pub condition_of : Record → Condition
-condition_of (Record.Plain r) = Passed
-condition_of (Record.Wfx r) = Stated r.cv r.cond
-condition_of (Record.Mcr r) = Stated r.cv r.cond
-condition_of (Record.Mcrr r) = Stated r.cv r.cond
-condition_of (Record.Ldc r) = Stated r.cv r.cond
-condition_of (Record.Simd r) = Stated r.cv r.cond
-condition_of (Record.Call r) = Passed
-condition_of (Record.Smc r) = cond r.ccknownpass (Stated r.cv r.cond) Passed
-condition_of (Record.InstructionAbort r) = Passed
-condition_of (Record.DataAbort r) = Passed
-condition_of (Record.Debug r) = Passed
-condition_of (Record.Step r) = Passed
-condition_of (Record.Watchpoint r) = Passed
-condition_of (Record.SError r) = Passed
-condition_of (Record.System r) = Passed
+abbrev pub stated : Bool → ℕ → Option Condition
+stated cv c = Some record { cv = cv; cond = c }
+
+abbrev pub condition_of : Record → Option Condition
+condition_of (Record.Plain r) = None
+condition_of (Record.Wfx r) = stated r.cv r.cond
+condition_of (Record.Mcr r) = stated r.cv r.cond
+condition_of (Record.Mcrr r) = stated r.cv r.cond
+condition_of (Record.Ldc r) = stated r.cv r.cond
+condition_of (Record.Simd r) = stated r.cv r.cond
+condition_of (Record.Call r) = None
+condition_of (Record.Smc r) = cond r.ccknownpass (stated r.cv r.cond) None
+condition_of (Record.InstructionAbort r) = None
+condition_of (Record.DataAbort r) = None
+condition_of (Record.Debug r) = None
+condition_of (Record.Step r) = None
+condition_of (Record.Watchpoint r) = None
+condition_of (Record.SError r) = None
+condition_of (Record.System r) = None
 
 abbrev pub same : Bool → Bool → Bool
 same a b = cond a b (not b)
@@ -53,9 +55,9 @@ condition_holds c w = cond (bit_of c 0 && not (field_of c 3 0 == 0b1111)) (not (
 abbrev pub current_condition : ℕ → ℕ
 current_condition w = cond (t32 w && not (field_of (it_of w) 3 0 == 0)) (field_of (it_of w) 7 4) 0b1110
 
-abbrev pub passes_by : ℕ → Condition → Bool
-passes_by w Passed = true
-passes_by w (Stated cv c) = condition_holds (cond cv c (current_condition w)) w
+abbrev pub passes_by : ℕ → Option Condition → Bool
+passes_by w None = true
+passes_by w (Some c) = condition_holds (cond c.cv c.cond (current_condition w)) w
 
 unfoldable pub passes : ℕ → Record → Bool
 passes w r = passes_by w (condition_of r)

@@ -2,5 +2,6 @@
 -- instruction counts, and an instruction stepped over.
 pub mod Condition
 pub mod Step
+pub mod Refusal
 pub mod Over
 pub mod Promise

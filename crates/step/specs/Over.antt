@@ -1,6 +1,6 @@
 -- A trapped instruction stepped over: WFI, WFE, SMC and a cache maintenance operation, whose work is the monitor's own, and an instruction
 -- whose condition fails. PC of these traps is at the instruction.
-use Rattle.std.specs.Prelude.{ℕ, Bool, false, not, ◌&&◌, ◌||◌, List, [], ◌∷◌, ◌==◌}
+use Rattle.std.specs.Prelude.{ℕ, ⊤, Result, Ok, Err, Bool, false, not, ◌&&◌, ◌||◌, List, [], ◌∷◌, ◌==◌}
 use Rattle.bits.specs.Among.{among}
 use Rattle.bits.specs.Decide.{Test, needs, decide, relabel}
 use Rattle.record.specs.Class.{head_of}
@@ -11,20 +11,19 @@ use Rattle.record.specs.declared.kinds.Sort.{Sort}
 use Rattle.rule.specs.Has.{editions_of}
 use Rattle.status.specs.Sound.{sound}
 use Rattle.exception.specs.declared.state.Guest.{Guest}
-use Rattle.step.specs.declared.over.Answer.{Answer}
-use Rattle.step.specs.declared.over.Answer.TheVariants.{Stepped, NoEdition, UnsoundStatus, NotStepped}
-use Rattle.step.specs.declared.over.SteppedOver.{SteppedOver}
+use Rattle.step.specs.declared.over.Onward.{Onward}
+use Rattle.step.specs.declared.refusal.OnwardRefusal.{OnwardRefusal}
+use Rattle.step.specs.declared.refusal.OnwardRefusal.TheVariants.{NoEdition, UnsoundStatus, NotThis}
 use Rattle.step.specs.Condition.{passes}
+use Rattle.step.specs.Refusal.{onward_number}
 use Rattle.step.specs.Step.{stepped}
 
 -- the number of each answer
-abbrev pub step_number : Answer → ℕ
-step_number Stepped = 0
-step_number NoEdition = 5
-step_number UnsoundStatus = 9
-step_number NotStepped = 18
+abbrev pub step_number : Result ⊤ OnwardRefusal → ℕ
+step_number (Ok done) = 0
+step_number (Err refusal) = onward_number refusal
 
-abbrev pub number_stepped : SteppedOver → ℕ
+abbrev pub number_stepped : Onward ⊤ → ℕ
 number_stepped d = step_number d.answer
 
 -- ---- the tests
@@ -51,20 +50,20 @@ is_stepped_over w r = among (0x01 ∷ 0x13 ∷ []) (head_of r).class || maintain
 -- ---- the call
 
 -- a refusal gives back the state as it came
-abbrev pub refusing : Answer → Guest → SteppedOver
-refusing a s = record { answer = a; state = s }
+abbrev pub refusing : OnwardRefusal → Guest → Onward ⊤
+refusing refusal s = record { answer = Err refusal; state = s }
 
 -- the tests in their order
-abbrev pub step_tests : Guest → Record → List (Test SteppedOver)
+abbrev pub step_tests : Guest → Record → List (Test (Onward ⊤))
 step_tests s r =
     needs (had r) (refusing NoEdition s)
     ∷ needs (sound s.marks s.status) (refusing UnsoundStatus s)
-    ∷ needs (is_stepped_over s.status r) (refusing NotStepped s)
+    ∷ needs (is_stepped_over s.status r) (refusing NotThis s)
     ∷ []
 
 -- each with its number; 0 comes where none fails
 abbrev pub step_numbers : Guest → Record → List (Test ℕ)
 step_numbers s r = relabel number_stepped (step_tests s r)
 
-unfoldable pub stepped_over : Guest → Record → SteppedOver
-stepped_over s r = decide (step_tests s r) (record { answer = Stepped; state = stepped s s.regs (head_of r).il })
+unfoldable pub stepped_over : Guest → Record → Onward ⊤
+stepped_over s r = decide (step_tests s r) (record { answer = Ok tt; state = stepped s s.regs (head_of r).il })

@@ -1,70 +1,34 @@
 // Whether a trapped instruction counts: one whose condition fails does nothing.
 ghost use Rattle.std.specs.Prelude.{◌≡◌};
-ghost use Rattle.step.specs.Condition.{condition_of, same, tested, test_of, condition_holds, current_condition, passes};
+ghost use Rattle.step.specs.Condition.{condition_of, tested, test_of, condition_holds, current_condition, passes};
 
 use bits::{bit, field32};
-use record::Record;
+use record::{Ldc, Mcr, Mcrr, Record, Simd, Wfx};
 use status::{it_of, t32};
 
-// What a record says of its instruction's condition.
+// What a record says of its instruction's condition: CV and COND.
 #[derive(Clone, Copy)]
-pub(crate) enum Condition {
-    // The instruction has none, or is known to have passed it.
-    Passed,
-    // CV and COND.
-    Stated { cv: bool, cond: u32 },
+pub(crate) struct Condition {
+    cv: bool,
+    cond: u32,
 }
 
-fn condition_of(what: Record) -> Condition
+// None where the instruction has no condition, or is known to have passed it.
+fn condition_of(what: Record) -> Option<Condition>
     ensures { result ≡ condition_of what }
 {
     match what {
-        Record::Plain(_) => Condition::Passed,
-        Record::Wfx(x) => Condition::Stated {
+        Record::Wfx(Wfx { cv, cond, .. })
+        | Record::Mcr(Mcr { cv, cond, .. })
+        | Record::Mcrr(Mcrr { cv, cond, .. })
+        | Record::Ldc(Ldc { cv, cond, .. })
+        | Record::Simd(Simd { cv, cond, .. }) => Some(Condition { cv, cond }),
+        Record::Smc(x) if x.ccknownpass => Some(Condition {
             cv: x.cv,
             cond: x.cond,
-        },
-        Record::Mcr(x) => Condition::Stated {
-            cv: x.cv,
-            cond: x.cond,
-        },
-        Record::Mcrr(x) => Condition::Stated {
-            cv: x.cv,
-            cond: x.cond,
-        },
-        Record::Ldc(x) => Condition::Stated {
-            cv: x.cv,
-            cond: x.cond,
-        },
-        Record::Simd(x) => Condition::Stated {
-            cv: x.cv,
-            cond: x.cond,
-        },
-        Record::Call(_) => Condition::Passed,
-        Record::Smc(x) => {
-            if x.ccknownpass {
-                Condition::Stated {
-                    cv: x.cv,
-                    cond: x.cond,
-                }
-            } else {
-                Condition::Passed
-            }
-        }
-        Record::InstructionAbort(_) => Condition::Passed,
-        Record::DataAbort(_) => Condition::Passed,
-        Record::Debug(_) => Condition::Passed,
-        Record::Step(_) => Condition::Passed,
-        Record::Watchpoint(_) => Condition::Passed,
-        Record::SError(_) => Condition::Passed,
-        Record::System(_) => Condition::Passed,
+        }),
+        _ => None,
     }
-}
-
-fn same(a: bool, b: bool) -> bool
-    ensures { result ≡ same a b }
-{
-    if a { b } else { !b }
 }
 
 // The test of N, Z, C and V that COND<3:1> chooses.
@@ -77,8 +41,8 @@ fn tested(test: u32, n: bool, z: bool, c: bool, v: bool) -> bool
         2 => n,
         3 => v,
         4 => c & !z,
-        5 => same(n, v),
-        6 => same(n, v) & !z,
+        5 => n == v,
+        6 => (n == v) & !z,
         _ => true,
     }
 }
@@ -97,6 +61,7 @@ fn test_of(cond: u32, status: u32) -> bool
 }
 
 // The manual's ConditionHolds: COND<0> inverts the test, but of 1111.
+#[tactic(auto, unfolding(crate::specs::Condition::condition_holds))]
 fn condition_holds(cond: u32, status: u32) -> bool
     ensures { result ≡ condition_holds cond status }
 {
@@ -121,14 +86,15 @@ fn current_condition(status: u32) -> u32
 }
 
 // Whether the instruction's condition passes, in a guest with this status word.
+#[tactic(auto, unfolding(crate::specs::Condition::passes))]
 pub fn passes(status: u32, what: Record) -> bool
     ensures { result ≡ passes status what }
 {
     match condition_of(what) {
-        Condition::Passed => true,
-        Condition::Stated { cv, cond } => {
-            if cv {
-                condition_holds(cond, status)
+        None => true,
+        Some(condition) => {
+            if condition.cv {
+                condition_holds(condition.cond, status)
             } else {
                 condition_holds(current_condition(status), status)
             }

@@ -4,7 +4,9 @@
 mod condition;
 mod over;
 mod past;
+mod refusal;
 
 pub use condition::passes;
-pub use over::{Answer, SteppedOver, had, number, step_over};
+pub use over::{Onward, had, number, step_over};
 pub use past::stepped;
+pub use refusal::{OnwardRefusal, onward_number};

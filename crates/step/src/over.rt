@@ -5,35 +5,24 @@ ghost use Rattle.step.specs.Promise.{StepPromise};
 
 use crate::condition::passes;
 use crate::past::stepped;
+use crate::refusal::{OnwardRefusal, onward_number};
 use exception::Guest;
 use record::{Origin, Record, Sort, head, sort};
 use status::sound;
 
+// What a call that goes on from a trapped instruction answers, with the state after it: a refusal's is the state that came.
 #[derive(Clone, Copy)]
-pub enum Answer {
-    Stepped,
-    // No edition has the record.
-    NoEdition,
-    // The status word's mode, or a bit of its 24:21, is wrong.
-    UnsoundStatus,
-    // The instruction counts, and stepping over it is not what it does.
-    NotStepped,
-}
-
-#[derive(Clone, Copy)]
-pub struct SteppedOver {
-    pub answer: Answer,
+pub struct Onward<T> {
+    pub answer: Result<T, OnwardRefusal>,
     pub state: Guest,
 }
 
-pub fn number(answer: Answer) -> u32
+pub fn number(answer: Result<(), OnwardRefusal>) -> u32
     ensures { result ≡ step_number answer }
 {
     match answer {
-        Answer::Stepped => 0,
-        Answer::NoEdition => 5,
-        Answer::UnsoundStatus => 9,
-        Answer::NotStepped => 18,
+        Ok(()) => 0,
+        Err(refusal) => onward_number(refusal),
     }
 }
 
@@ -48,12 +37,10 @@ pub fn had(what: Record) -> bool
 fn maintains(what: Record) -> bool
     ensures { result ≡ maintains what }
 {
-    match sort(what) {
-        Sort::Plain => false,
-        Sort::Addressed => false,
-        Sort::InstructionAbort(_) => false,
-        Sort::DataAbort(abort) => abort.cm & !abort.s1ptw,
-        Sort::SError(_) => false,
+    if let Sort::DataAbort(abort) = sort(what) {
+        abort.cm & !abort.s1ptw
+    } else {
+        false
     }
 }
 
@@ -62,37 +49,38 @@ fn is_stepped_over(status: u32, what: Record) -> bool
     ensures { result ≡ is_stepped_over status what }
 {
     let top = head(what);
-    (top.class == 0x01) | (top.class == 0x13) | maintains(what) | !passes(status, what)
+    matches!(top.class, 0x01 | 0x13) | maintains(what) | !passes(status, what)
 }
 
 // The answer, with the state after it: a refusal's is the state that came.
-pub fn step_over(state: Guest, what: Record) -> SteppedOver
+#[tactic(auto, unfolding(crate::specs::Over::stepped_over))]
+pub fn step_over(state: Guest, what: Record) -> Onward<()>
     ensures { StepPromise state what result }
 {
     if !had(what) {
-        return SteppedOver {
-            answer: Answer::NoEdition,
+        return Onward {
+            answer: Err(OnwardRefusal::NoEdition),
             state,
         };
     }
     let marks = state.marks;
     if !sound(marks, state.status) {
-        return SteppedOver {
-            answer: Answer::UnsoundStatus,
+        return Onward {
+            answer: Err(OnwardRefusal::UnsoundStatus),
             state,
         };
     }
     if !is_stepped_over(state.status, what) {
-        return SteppedOver {
-            answer: Answer::NotStepped,
+        return Onward {
+            answer: Err(OnwardRefusal::NotThis),
             state,
         };
     }
     let regs = state.regs;
     let top = head(what);
     let after = stepped(state, regs, top.il);
-    SteppedOver {
-        answer: Answer::Stepped,
+    Onward {
+        answer: Ok(()),
         state: after,
     }
 }

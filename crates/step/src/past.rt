@@ -14,6 +14,7 @@ fn bytes_of(il: bool) -> u32
 }
 
 // The state past the instruction, with these registers.
+#[tactic(auto, unfolding(crate::specs::Step::stepped))]
 pub fn stepped(state: Guest, regs: [u32; 31], il: bool) -> Guest
     ensures { result ≡ stepped state regs il }
 {

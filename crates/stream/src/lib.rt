@@ -5,43 +5,43 @@
 // say which bytes were read or written, or why a call failed.
 #![tactic(auto)]
 
-ghost use Rattle.std.specs.Prelude.{◌≡◌, length};
+ghost use Rattle.std.specs.Prelude.{◌≡◌, IfOk, IfErr, length};
 ghost use Rattle.io.specs.Counts.{IsPrefixLen};
-ghost use Rattle.stream.specs.Piece.{answer, piece_of};
+ghost use Rattle.stream.specs.Piece.{piece_of};
 
 use std::env::{Env, FillError};
-use std::io::{Error, ErrorKind, Read, Result, Write};
+use std::io::{self, Error, ErrorKind, Read, Write};
 
-// What was read: how many bytes, none where the input has ended, and whether a read failed.
-#[derive(Clone, Copy)]
-pub struct Piece {
+// That a call failed, which was told.
+#[derive(Clone, Copy, PartialEq, Eq)]
+pub struct Failed;
+
+// The same of a read, and how many bytes had come before it.
+#[derive(Clone, Copy, PartialEq, Eq)]
+pub struct Stopped {
     pub count: usize,
-    pub failed: bool,
 }
 
-// What the answer to a read says.
-fn piece_of(got: Result<usize>, space: &[u8]) -> Piece
-    ensures value { result ≡ piece_of (answer got) (length space.now) }
-    ensures prefix_len { IsPrefixLen result.count space.now }
+impl From<Stopped> for Failed {
+    fn from(_stopped: Stopped) -> Failed {
+        Failed
+    }
+}
+
+// What the answer to a read says: how many bytes were read, none where the input has ended.
+fn piece_of(got: io::Result<usize>, space: &[u8]) -> Result<usize, Failed>
+    ensures value { result ≡ piece_of got (length space.now) }
+    ensures prefix_len { IfOk result (λ n. IsPrefixLen n space.now) }
 {
     match got {
-        Ok(n) => Piece {
-            count: n.min(space.len()),
-            failed: false,
-        },
-        Err(_) => Piece {
-            count: 0,
-            failed: true,
-        },
+        Ok(n) => Ok(n.min(space.len())),
+        Err(_) => Err(Failed),
     }
 }
 
 // Whether a call that gave this answer is to be made again.
-fn interrupted(got: &Result<usize>) -> bool {
-    match got {
-        Ok(_) => false,
-        Err(error) => error.kind() == ErrorKind::Interrupted,
-    }
+fn interrupted(got: &io::Result<usize>) -> bool {
+    matches!(got, Err(error) if error.kind() == ErrorKind::Interrupted)
 }
 
 // Puts the library's text of an error at the start of a space, and gives its length.
@@ -82,8 +82,8 @@ pub fn read<R: Read, E: Write>(
     errors: &mut E,
     name: &[u8],
     space: &mut [u8],
-) -> Piece
-    ensures { IsPrefixLen result.count space.new }
+) -> Result<usize, Failed>
+    ensures { IfOk result (λ n. IsPrefixLen n space.new) }
 {
     let mut got = source.read(space);
     for _ in 0..u64::MAX {
@@ -104,37 +104,31 @@ pub fn read_full<R: Read, E: Write>(
     errors: &mut E,
     name: &[u8],
     space: &mut [u8],
-) -> Piece
-    ensures { IsPrefixLen result.count space.new }
+) -> Result<usize, Stopped>
+    ensures whole { IfOk result (λ n. IsPrefixLen n space.new) }
+    ensures stopped { IfErr result (λ s. IsPrefixLen s.count space.new) }
 {
     let mut done = 0;
-    let mut failed = false;
+    // Kept: a turn goes on by what a read gave, which no range or iterator counts.
     while done < space.len() {
-        let piece = read(source, errors, name, &mut space[done..]);
-        failed = piece.failed;
-        if piece.count == 0 {
-            break;
+        match read(source, errors, name, &mut space[done..]) {
+            Ok(0) => break,
+            Ok(n) => done += n,
+            Err(Failed) => return Err(Stopped { count: done }),
         }
-        done += piece.count;
     }
-    Piece {
-        count: done,
-        failed,
-    }
+    Ok(done)
 }
 
-// Writes all of some bytes, and tells whether they were taken.
-pub fn write<W: Write, E: Write>(out: &mut W, errors: &mut E, bytes: &[u8]) -> bool {
-    match out.write_all(bytes) {
-        Ok(()) => true,
-        Err(error) => {
-            // A pipe that nobody reads any more ends a program with nothing told.
-            if error.kind() != ErrorKind::BrokenPipe {
-                tell(errors, b"standard output", error);
-            }
-            false
+// Writes all of some bytes.
+pub fn write<W: Write, E: Write>(out: &mut W, errors: &mut E, bytes: &[u8]) -> Result<(), Failed> {
+    out.write_all(bytes).map_err(|error| {
+        // A pipe that nobody reads any more ends a program with nothing told.
+        if error.kind() != ErrorKind::BrokenPipe {
+            tell(errors, b"standard output", error);
         }
-    }
+        Failed
+    })
 }
 
 // How many arguments a program was started with, its own name among them.

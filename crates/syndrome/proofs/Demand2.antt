@@ -5,9 +5,11 @@ use mathlib.Core.Path.{◌≡◌, subst}
 use mathlib.Core.Bool.{true, false}
 use mathlib.Core.Logic.{◌↔◌}
 use Prim.Native.Nat.{ℕ}
+use Rattle.std.specs.Prelude.{Ok}
 use Rattle.bits.specs.Field.{bit_of}
 use Rattle.form.proofs.Forms as Forms
 use Rattle.form.proofs.Demand2 as Forms2
+use Rattle.form.proofs.Shows.{own_shows}
 use Rattle.layout.specs.Explained.{explained}
 use Rattle.layout.specs.Fields.{fields_of, record_word}
 use Rattle.layout.proofs.RoundTrip.{fields_ordered}
@@ -20,31 +22,29 @@ use Rattle.rule.proofs.Having.{has_fits}
 use Rattle.syndrome.specs.Form.{long_form}
 use Rattle.syndrome.specs.Reading.{has_word, read_of}
 use Rattle.syndrome.specs.Writing.{write_of}
-use Rattle.syndrome.specs.declared.answer.Read.{Read}
-use Rattle.syndrome.specs.declared.answer.Written.{Written}
-use Rattle.syndrome.proofs.Instance.{sound, read_shows, written_shows}
+use Rattle.syndrome.proofs.Instance.{sound, written_shows}
 
 module _ (o : Origin) where
   -- READING: the answer is a record exactly when the edition has it and it makes the word
-  pub read_exactly : (e : ℕ) (esr : Esr) (r : Record) → (read_of o e esr ≡ Read.Taken r) ↔ ((has o e r ≡ true) × (record_word r ≡ esr.0))
+  pub read_exactly : (e : ℕ) (esr : Esr) (r : Record) → (read_of o e esr ≡ Ok r) ↔ ((has o e r ≡ true) × (record_word r ≡ esr.0))
   unfolding read_of
-  read_exactly e esr r = Forms2.read_exactly (long_form o) (sound o) read_shows written_shows e esr.0 r
+  read_exactly e esr r = Forms2.read_exactly (long_form o) (sound o) own_shows written_shows e esr.0 r
 
   -- WRITING: the answer is a word exactly when the edition has the record and the record makes the word
-  pub write_exactly : (e w : ℕ) (r : Record) → (write_of o e r ≡ Written.Word (record { 0 = w })) ↔ ((has o e r ≡ true) × (record_word r ≡ w))
+  pub write_exactly : (e w : ℕ) (r : Record) → (write_of o e r ≡ Ok (record { 0 = w })) ↔ ((has o e r ≡ true) × (record_word r ≡ w))
   unfolding write_of
-  write_exactly e w r = Forms2.write_exactly (long_form o) (sound o) read_shows written_shows e w r
+  write_exactly e w r = Forms2.write_exactly (long_form o) (sound o) own_shows written_shows e w r
 
   -- DEMAND 2: a word is read as a record exactly when that record is written to the same word
-  pub read_as_written : (e : ℕ) (esr : Esr) (r : Record) → (read_of o e esr ≡ Read.Taken r) ↔ (write_of o e r ≡ Written.Word esr)
+  pub read_as_written : (e : ℕ) (esr : Esr) (r : Record) → (read_of o e esr ≡ Ok r) ↔ (write_of o e r ≡ Ok esr)
   unfolding read_of write_of
-  read_as_written e esr r = Forms2.read_as_written (long_form o) (sound o) read_shows written_shows e esr.0 r
+  read_as_written e esr r = Forms2.read_as_written (long_form o) (sound o) own_shows written_shows e esr.0 r
 
   -- a word is taken exactly when some record writes to it
-  pub taken_exactly : (e : ℕ) (esr : Esr) → ((r : Record) × (read_of o e esr ≡ Read.Taken r)) ↔
-      ((r : Record) × (write_of o e r ≡ Written.Word esr))
+  pub taken_exactly : (e : ℕ) (esr : Esr) → ((r : Record) × (read_of o e esr ≡ Ok r)) ↔
+      ((r : Record) × (write_of o e r ≡ Ok esr))
   unfolding read_of write_of
-  taken_exactly e esr = Forms2.taken_exactly (long_form o) (sound o) read_shows written_shows e esr.0
+  taken_exactly e esr = Forms2.taken_exactly (long_form o) (sound o) own_shows written_shows e esr.0
 
   -- an edition has a word exactly when it has a record that makes the word
   pub has_word_exactly : (e w : ℕ) → (has_word o e w ≡ true) ↔ ((r : Record) × (has o e r ≡ true) × (record_word r ≡ w))
@@ -55,7 +55,7 @@ module _ (o : Origin) where
   same_record = Forms.same_record (long_form o) (sound o)
 
   -- NO OTHER BIT: a bit of a word that is taken, in which no field of its record stands, is 0
-  pub unexplained_clear : (e n : ℕ) (esr : Esr) (r : Record) → read_of o e esr ≡ Read.Taken r → explained n (fields_of r) ≡ false
+  pub unexplained_clear : (e n : ℕ) (esr : Esr) (r : Record) → read_of o e esr ≡ Ok r → explained n (fields_of r) ≡ false
       → bit_of esr.0 n ≡ false
   unexplained_clear e n esr r taken out =
       let had = (read_exactly e esr r).0 taken in

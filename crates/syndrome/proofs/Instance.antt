@@ -6,8 +6,9 @@ use Prim.Native.Nat.{ℕ, ◌%◌, ◌^◌}
 use native.Mathlib.Nat.{div-eq_of_lt}
 use native.Mathlib.Omega.{arith}
 use borrow.Author.Tests.{eq-eqb}
+use Rattle.std.specs.Prelude.{Result, Ok, Err}
 use Rattle.bits.specs.Decide.{AllPass}
-use Rattle.form.specs.Answer.{Answer, given, refused}
+use Rattle.edition.specs.declared.Refusal.{Refusal}
 use Rattle.form.proofs.Forms.{Sound}
 use Rattle.form.proofs.Shows.{Shows}
 use Rattle.layout.specs.Fields.{record_word}
@@ -20,7 +21,7 @@ use Rattle.rule.specs.Has.{has}
 use Rattle.rule.proofs.Lengths.{ignores_isv}
 use Rattle.rule.proofs.Having.{has_edition, has_class, has_own, has_origin, has_il, has_fits}
 use Rattle.syndrome.specs.Form.{long_form}
-use Rattle.syndrome.specs.Answer.{as_read, read_means, as_written, written_means}
+use Rattle.syndrome.specs.Answer.{as_written, written_means}
 use Rattle.syndrome.specs.Tests.{upper_clear, word_il, read_tests}
 
 module _ (o : Origin) where
@@ -45,17 +46,10 @@ module _ (o : Origin) where
         write_early = λ r. (λ six. omega (arith, six), (λ six. omega (arith, six), tt));
       }
 
--- the answers of code show those of the calls
-pub read_shows : Shows as_read read_means
-read_shows = record { same = by }
-  where
-    by : (a : Answer Record) → read_means (as_read a) ≡ a
-    by (given r) = refl
-    by (refused refusal) = refl
-
+-- the answer of code shows the call's: its word is a register's
 pub written_shows : Shows as_written written_means
 written_shows = record { same = by }
   where
-    by : (a : Answer ℕ) → written_means (as_written a) ≡ a
-    by (given w) = refl
-    by (refused refusal) = refl
+    by : (a : Result ℕ Refusal) → written_means (as_written a) ≡ a
+    by (Ok w) = refl
+    by (Err refusal) = refl

@@ -6,6 +6,7 @@ use mathlib.Core.Bool.{Bool, false}
 use mathlib.Core.Logic.{◌↔◌, ◌⊎◌, inl, inr}
 use Prim.Native.Nat.{ℕ, ◌≤◌, ◌<◌}
 use lib.Dec.{lit≤}
+use Rattle.std.specs.Prelude.{Err}
 use Rattle.bits.specs.Field.{bit_of}
 use Rattle.bits.specs.Decide.{FirstFails, FailsWith}
 use Rattle.edition.specs.Feature.{editions}
@@ -15,6 +16,7 @@ use Rattle.edition.proofs.Masks.{mask_bit, mask_bit_above}
 use Rattle.form.proofs.Calls.{OthersHave}
 use Rattle.promise.proofs.Promises.{first_exactly, fails_exactly, number_is}
 use Rattle.form.proofs.Promises as Forms
+use Rattle.form.proofs.Shows.{own_shows}
 use Rattle.record.specs.declared.origin.Origin.{Origin}
 use Rattle.registers.specs.declared.Esr.{Esr}
 use Rattle.record.specs.declared.kinds.Record.{Record}
@@ -23,9 +25,7 @@ use Rattle.syndrome.specs.Form.{long_form}
 use Rattle.syndrome.specs.Answer.{read_said, written_said}
 use Rattle.syndrome.specs.Reading.{has_word, read_of, read_list}
 use Rattle.syndrome.specs.Writing.{write_of, write_list}
-use Rattle.syndrome.specs.declared.answer.Read.{Read}
-use Rattle.syndrome.specs.declared.answer.Written.{Written}
-use Rattle.syndrome.proofs.Instance.{sound, read_shows, written_shows}
+use Rattle.syndrome.proofs.Instance.{sound, written_shows}
 use Rattle.syndrome.proofs.Promises.{reads, writes}
 
 module _ (o : Origin) (e : ℕ) (esr : Esr) where
@@ -40,11 +40,11 @@ module _ (o : Origin) (e : ℕ) (esr : Esr) where
       (lit≤ tt, (lit≤ tt, (lit≤ tt, (lit≤ tt, (lit≤ tt, (lit≤ tt, tt)))))) (lit≤ tt)
 
   pub read_six_exactly : (mask count : ℕ)
-      → (read_of o e esr ≡ Read.Refused (OtherEditions mask count))
+      → (read_of o e esr ≡ Err (OtherEditions mask count))
       ↔ (OthersHave editions (λ x. has_word o x esr.0) e × (mask ≡ mask_of (λ x. has_word o x esr.0))
       × (count ≡ count_below editions (λ x. has_word o x esr.0)))
   unfolding read_of mask_of
-  read_six_exactly = Forms.read_six_exactly (long_form o) (sound o) read_shows e esr.0
+  read_six_exactly = Forms.read_six_exactly (long_form o) (sound o) own_shows e esr.0
 
 -- a number of writing: 0, 1, 4, 5 or 6
 abbrev pub OneOfWriting : ℕ → Type 0
@@ -63,7 +63,7 @@ module _ (o : Origin) (e : ℕ) (r : Record) where
       (inl refl)
 
   pub write_six_exactly : (mask count : ℕ)
-      → (write_of o e r ≡ Written.Refused (OtherEditions mask count))
+      → (write_of o e r ≡ Err (OtherEditions mask count))
       ↔ (OthersHave editions (λ x. has o x r) e × (mask ≡ editions_of o r) × (count ≡ count_below editions (λ x. has o x r)))
   unfolding write_of mask_of
   write_six_exactly = Forms.write_six_exactly (long_form o) (sound o) written_shows e r

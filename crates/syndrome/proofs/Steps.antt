@@ -4,17 +4,17 @@ use mathlib.Core.Path.{◌≡◌, ap}
 use mathlib.Core.Bool.{true, false}
 use Prim.Native.Nat.{ℕ}
 use borrow.Author.Tests.{ltb-true}
+use Rattle.std.specs.Prelude.{Result, Ok, Err}
 use Rattle.bits.specs.Inner.{joined_from}
 use Rattle.edition.specs.Feature.{editions, is_edition}
 use Rattle.edition.specs.Mask.{mask_of}
 use Rattle.edition.specs.Judge.{judge_of}
 use Rattle.edition.specs.declared.Refusal.{Refusal}
 use Rattle.edition.specs.declared.Refusal.TheVariants.{UnknownEdition, UpperHalf, UnknownClass, ShortInstruction, NoEdition}
-use Rattle.edition.specs.declared.Verdict.{Verdict}
 use Rattle.edition.proofs.Judgement.{judge_taken}
 use Rattle.form.specs.Call.{call_of}
 use Rattle.form.specs.Form as Form
-use Rattle.form.proofs.Shows.{again_given, again_refused, carried_given, carried_refused}
+use Rattle.form.proofs.Shows.{own_shows, again_given, again_refused, carried_given, carried_refused}
 use Rattle.form.proofs.Verdicts.{verdict_of, call_verdict}
 use Rattle.layout.specs.Fields.{fields_of, record_word}
 use Rattle.record.specs.Split.{record_at}
@@ -27,61 +27,55 @@ use Rattle.rule.proofs.Having.{has_fits}
 use Rattle.syndrome.specs.Inner.{makes}
 use Rattle.syndrome.specs.Tests.{upper_clear, class_known, word_il, read_tests, write_tests}
 use Rattle.syndrome.specs.Form.{long_form}
-use Rattle.syndrome.specs.Answer.{as_read, as_written, as_carried}
+use Rattle.syndrome.specs.Answer.{as_written}
 use Rattle.syndrome.specs.Reading.{has_word, read_of}
 use Rattle.syndrome.specs.Writing.{write_of}
 use Rattle.syndrome.specs.Carry.{rewritten_of, carried_of}
-use Rattle.syndrome.specs.declared.answer.Read.{Read}
-use Rattle.syndrome.specs.declared.answer.Written.{Written}
-use Rattle.syndrome.specs.declared.answer.Carried.{Carried}
-use Rattle.syndrome.proofs.Instance.{read_shows, written_shows}
+use Rattle.syndrome.proofs.Instance.{written_shows}
 
--- what each verdict makes of a record, and of a word
-abbrev pub read_verdict : Record → Verdict → Read
-read_verdict r v = as_read (verdict_of r v)
-
-abbrev pub write_verdict : ℕ → Verdict → Written
+-- what a verdict makes of a word
+abbrev pub write_verdict : ℕ → Result Unit Refusal → Result Esr Refusal
 write_verdict w v = as_written (verdict_of w v)
 
 module _ (o : Origin) where
   module _ (e : ℕ) (esr : Esr) where
-    pub read_unknown : is_edition e ≡ false → read_of o e esr ≡ Read.Refused UnknownEdition
+    pub read_unknown : is_edition e ≡ false → read_of o e esr ≡ Err UnknownEdition
     unfolding read_of call_of
     read_unknown k = simp k
 
     module _ (k : is_edition e ≡ true) where
-      pub read_upper : upper_clear esr.0 ≡ false → read_of o e esr ≡ Read.Refused UpperHalf
+      pub read_upper : upper_clear esr.0 ≡ false → read_of o e esr ≡ Err UpperHalf
       unfolding read_of call_of
       read_upper u = simp (k, u)
 
       module _ (u : upper_clear esr.0 ≡ true) where
-        pub read_class : class_known o esr.0 ≡ false → read_of o e esr ≡ Read.Refused UnknownClass
+        pub read_class : class_known o esr.0 ≡ false → read_of o e esr ≡ Err UnknownClass
         unfolding read_of call_of
         read_class c = simp (k, u, c)
 
         module _ (c : class_known o esr.0 ≡ true) where
-          pub read_short : word_il o esr.0 ≡ false → read_of o e esr ≡ Read.Refused ShortInstruction
+          pub read_short : word_il o esr.0 ≡ false → read_of o e esr ≡ Err ShortInstruction
           unfolding read_of call_of
           read_short l = simp (k, u, c, l)
 
           pub read_judged : word_il o esr.0 ≡ true
-              → read_of o e esr ≡ read_verdict (record_at esr.0) (judge_of e (mask_of (λ x. makes o x (record_at esr.0) esr.0)))
+              → read_of o e esr ≡ verdict_of (record_at esr.0) (judge_of e (mask_of (λ x. makes o x (record_at esr.0) esr.0)))
           unfolding read_of Form.has_word mask_of
           read_judged l =
-              ap as_read (call_verdict editions (λ x. has_word o x esr.0) (read_tests o esr.0) e (record_at esr.0) k (u, (c, (l, tt))))
+              call_verdict editions (λ x. has_word o x esr.0) (read_tests o esr.0) e (record_at esr.0) k (u, (c, (l, tt)))
 
   module _ (e : ℕ) (r : Record) where
-    pub write_unknown : is_edition e ≡ false → write_of o e r ≡ Written.Refused UnknownEdition
+    pub write_unknown : is_edition e ≡ false → write_of o e r ≡ Err UnknownEdition
     unfolding write_of call_of
     write_unknown k = simp k
 
     module _ (k : is_edition e ≡ true) where
-      pub write_class : record_class o r ≡ false → write_of o e r ≡ Written.Refused NoEdition
+      pub write_class : record_class o r ≡ false → write_of o e r ≡ Err NoEdition
       unfolding write_of call_of
       write_class w = simp (k, w)
 
       module _ (w : record_class o r ≡ true) where
-        pub write_short : record_il o r ≡ false → write_of o e r ≡ Written.Refused ShortInstruction
+        pub write_short : record_il o r ≡ false → write_of o e r ≡ Err ShortInstruction
         unfolding write_of call_of
         write_short l = simp (k, w, l)
 
@@ -91,29 +85,29 @@ module _ (o : Origin) where
             ap as_written (call_verdict editions (λ x. has o x r) (write_tests o r) e (record_word r) k (w, (l, tt)))
 
   -- a record that an edition takes is put together into its word
-  pub joined_taken : (e : ℕ) (r : Record) → is_edition e ≡ true → judge_of e (editions_of o r) ≡ Verdict.Taken
+  pub joined_taken : (e : ℕ) (r : Record) → is_edition e ≡ true → judge_of e (editions_of o r) ≡ Ok (tt {0})
       → joined_from 0 (fields_of r) ≡ record_word r
   unfolding mask_of
   joined_taken e r k t = joined_record r (has_fits o e r (judge_taken editions (λ x. has o x r) e (ltb-true e editions k) t))
 
   -- a word that is rewritten, by what reading answered, and a record that is carried, by what writing did
   module _ (e : ℕ) (esr : Esr) where
-    pub rewritten_taken : (r : Record) → read_of o e esr ≡ Read.Taken r → rewritten_of o e esr ≡ Written.Word esr
+    pub rewritten_taken : (r : Record) → read_of o e esr ≡ Ok r → rewritten_of o e esr ≡ Ok esr
     unfolding read_of rewritten_of
-    rewritten_taken = again_given read_shows as_written esr.0 (Form.read_as (long_form o) e esr.0)
+    rewritten_taken = again_given own_shows as_written esr.0 (Form.read_as (long_form o) e esr.0)
 
-    pub rewritten_refused : (refusal : Refusal) → read_of o e esr ≡ Read.Refused refusal → rewritten_of o e esr ≡ Written.Refused refusal
+    pub rewritten_refused : (refusal : Refusal) → read_of o e esr ≡ Err refusal → rewritten_of o e esr ≡ Err refusal
     unfolding read_of rewritten_of
-    rewritten_refused = again_refused read_shows as_written esr.0 (Form.read_as (long_form o) e esr.0)
+    rewritten_refused = again_refused own_shows as_written esr.0 (Form.read_as (long_form o) e esr.0)
 
   module _ (writer reader : ℕ) (r : Record) where
-    pub carried_word : (esr : Esr) → write_of o writer r ≡ Written.Word esr
-        → carried_of o writer reader r ≡ as_carried (Form.read_back (long_form o) reader r)
+    pub carried_word : (esr : Esr) → write_of o writer r ≡ Ok esr
+        → carried_of o writer reader r ≡ Ok (Form.read_back (long_form o) reader r)
     unfolding write_of carried_of
-    carried_word esr = carried_given written_shows Carried.Unwritten as_carried (long_form o) reader r (Form.write_as (long_form o) writer r)
+    carried_word esr = carried_given written_shows Err Ok (long_form o) reader r (Form.write_as (long_form o) writer r)
         esr.0
 
-    pub carried_unwritten : (refusal : Refusal) → write_of o writer r ≡ Written.Refused refusal
-        → carried_of o writer reader r ≡ Carried.Unwritten refusal
+    pub carried_unwritten : (refusal : Refusal) → write_of o writer r ≡ Err refusal
+        → carried_of o writer reader r ≡ Err refusal
     unfolding write_of carried_of
-    carried_unwritten = carried_refused written_shows Carried.Unwritten as_carried (long_form o) reader r (Form.write_as (long_form o) writer r)
+    carried_unwritten = carried_refused written_shows Err Ok (long_form o) reader r (Form.write_as (long_form o) writer r)

@@ -1,45 +1,29 @@
 -- The answers of code, and what each means (crate form, specs/Answer.antt): what is given, with 0, or a refusal, with its number, mask and
 -- number of ones.
-use Rattle.std.specs.Prelude.{ℕ}
-use Rattle.form.specs.Answer.{Answer, given, refused}
+use Rattle.std.specs.Prelude.{ℕ, Result, Ok, Err}
+use Rattle.std.specs.Result.{result_flatten}
+use Rattle.edition.specs.declared.Refusal.{Refusal}
 use Rattle.promise.specs.Promise.{Numbers}
 use Rattle.form.specs.Promise.{numbers_of}
 use Rattle.record.specs.declared.kinds.Record.{Record}
-use Rattle.syndrome.specs.declared.answer.Read.{Read}
-use Rattle.syndrome.specs.declared.answer.Written.{Written}
-use Rattle.syndrome.specs.declared.answer.Carried.{Carried}
+use Rattle.registers.specs.declared.Esr.{Esr}
 
 -- reading
-abbrev pub as_read : Answer Record → Read
-as_read (given r) = Read.Taken r
-as_read (refused refusal) = Read.Refused refusal
+abbrev pub read_said : Numbers (Result Record Refusal)
+read_said = numbers_of (λ a. a)
 
-abbrev pub read_means : Read → Answer Record
-read_means (Read.Taken r) = given r
-read_means (Read.Refused refusal) = refused refusal
+-- writing: the word is a register's
+abbrev pub as_written : Result ℕ Refusal → Result Esr Refusal
+as_written (Ok w) = Ok (record { 0 = w })
+as_written (Err refusal) = Err refusal
 
-abbrev pub read_said : Numbers Read
-read_said = numbers_of read_means
+abbrev pub written_means : Result Esr Refusal → Result ℕ Refusal
+written_means (Ok esr) = Ok esr.0
+written_means (Err refusal) = Err refusal
 
--- writing
-abbrev pub as_written : Answer ℕ → Written
-as_written (given w) = Written.Word (record { 0 = w })
-as_written (refused refusal) = Written.Refused refusal
-
-abbrev pub written_means : Written → Answer ℕ
-written_means (Written.Word esr) = given esr.0
-written_means (Written.Refused refusal) = refused refusal
-
-abbrev pub written_said : Numbers Written
+abbrev pub written_said : Numbers (Result Esr Refusal)
 written_said = numbers_of written_means
 
 -- carrying: the writer's refusal, or what the reader answers
-abbrev pub as_carried : Answer Record → Carried
-as_carried a = Carried.Read (as_read a)
-
-abbrev pub carried_means : Carried → Answer Record
-carried_means (Carried.Unwritten refusal) = refused refusal
-carried_means (Carried.Read read) = read_means read
-
-abbrev pub carried_said : Numbers Carried
-carried_said = numbers_of carried_means
+abbrev pub carried_said : Numbers (Result (Result Record Refusal) Refusal)
+carried_said = numbers_of result_flatten

@@ -13,11 +13,9 @@ ghost use Rattle.syndrome.specs.Reading.{Reading};
 ghost use Rattle.syndrome.specs.Writing.{Writing};
 ghost use Rattle.syndrome.specs.Carry.{Carrying, Rewriting};
 
-mod answer;
 mod whole;
 
-pub use answer::{Carried, Read, Written};
-use edition::{Refusal, Verdict};
+use edition::Refusal;
 use record::{Origin, Record};
 use registers::Esr;
 use whole::whole;
@@ -48,66 +46,67 @@ fn word_il(origin: Origin, word: u64) -> bool
 }
 
 // Reads a syndrome word in an edition.
-pub fn read(origin: Origin, edition: u32, esr: Esr) -> Read
+// Kept: crate short has these four calls too, of its own tests and types. Their laws stand once, in crate form; a trait round bodies of two
+// lines would be no plainer.
+#[tactic(auto, using(crate::proofs::Promises::reads, crate::proofs::Steps::read_unknown, crate::proofs::Steps::read_upper, crate::proofs::Steps::read_class, crate::proofs::Steps::read_short))]
+pub fn read(origin: Origin, edition: u32, esr: Esr) -> Result<Record, Refusal>
     ensures { Reading origin edition esr result }
 {
     let word = esr.0;
     if !edition::known(edition) {
-        return Read::Refused(Refusal::UnknownEdition);
+        return Err(Refusal::UnknownEdition);
     }
     if bits::field(word, 63, 32) != 0 {
-        return Read::Refused(Refusal::UpperHalf);
+        return Err(Refusal::UpperHalf);
     }
     if !record::is_class(origin, bits::field32(word, 31, 26)) {
-        return Read::Refused(Refusal::UnknownClass);
+        return Err(Refusal::UnknownClass);
     }
     if !word_il(origin, word) {
-        return Read::Refused(Refusal::ShortInstruction);
+        return Err(Refusal::ShortInstruction);
     }
     let r = record::record_at(esr);
-    match edition::judge(edition, word_editions(origin, r, word)) {
-        Verdict::Taken => Read::Taken(r),
-        Verdict::Refused(refusal) => Read::Refused(refusal),
-    }
+    edition::judge(edition, word_editions(origin, r, word))?;
+    Ok(r)
 }
 
 // Writes a record in an edition.
-pub fn write(origin: Origin, edition: u32, r: Record) -> Written
+#[tactic(auto, using(crate::proofs::Promises::writes, crate::proofs::Steps::write_unknown, crate::proofs::Steps::write_class, crate::proofs::Steps::write_short))]
+pub fn write(origin: Origin, edition: u32, r: Record) -> Result<Esr, Refusal>
     ensures { Writing origin edition r result }
 {
     let h = record::head(r);
     if !edition::known(edition) {
-        return Written::Refused(Refusal::UnknownEdition);
+        return Err(Refusal::UnknownEdition);
     }
     if !(h.own & record::is_class(origin, h.class)) {
-        return Written::Refused(Refusal::NoEdition);
+        return Err(Refusal::NoEdition);
     }
     if !rule::il_rule(origin, h.class, h.isv, h.il) {
-        return Written::Refused(Refusal::ShortInstruction);
+        return Err(Refusal::ShortInstruction);
     }
-    match edition::judge(edition, rule::allowed(origin, r)) {
-        Verdict::Taken => Written::Word(Esr(layout::joined(r))),
-        Verdict::Refused(refusal) => Written::Refused(refusal),
-    }
+    edition::judge(edition, rule::allowed(origin, r))?;
+    Ok(Esr(layout::joined(r)))
 }
 
 // Demand 2 beside running code: reads a word and writes its record again. A word that is taken comes back with the same 64 bits.
-pub fn rewrite(origin: Origin, edition: u32, esr: Esr) -> Written
+pub fn rewrite(origin: Origin, edition: u32, esr: Esr) -> Result<Esr, Refusal>
     ensures { Rewriting origin edition esr result }
 {
-    match read(origin, edition, esr) {
-        Read::Taken(r) => write(origin, edition, r),
-        Read::Refused(refusal) => Written::Refused(refusal),
-    }
+    let r = read(origin, edition, esr)?;
+    write(origin, edition, r)
 }
 
 // Demand 3 beside running code: writes a record in one edition and reads the word in another, from one origin. The very record comes back
-// where the reader's edition has it, else refusal 6.
-pub fn carry(origin: Origin, writer: u32, reader: u32, r: Record) -> Carried
+// where the reader's edition has it, else refusal 6. The answer is the writer's refusal, or what the reader answers.
+pub fn carry(
+    origin: Origin,
+    writer: u32,
+    reader: u32,
+    r: Record,
+) -> Result<Result<Record, Refusal>, Refusal>
     ensures { Carrying origin writer reader r result }
 {
-    match write(origin, writer, r) {
-        Written::Word(esr) => Carried::Read(read(origin, reader, esr)),
-        Written::Refused(refusal) => Carried::Unwritten(refusal),
-    }
+    let esr = write(origin, writer, r)?;
+    Ok(read(origin, reader, esr))
 }

@@ -11,9 +11,10 @@ use borrow.Author.Tests.{eq-eqb, ne_eqb}
 use lib.Dec.{eqb}
 use lib.ListN.{length, drop, get_or}
 use lib.Seq.{drop-cons, drop-length}
-use Rattle.text.specs.Append.{Appends}
+use Rattle.text.specs.Append.{Extends}
+use Rattle.text.specs.declared.Text.{Text}
 use Rattle.text.specs.Lines.{state_after, chunk_text}
-use Rattle.text.proofs.Appending.{appends_none, appends_both}
+use Rattle.text.proofs.Appending.{extends_none, extends_both}
 
 module _ {S : Type 0} (start : S) (feed : S → ℕ → S) (answer : S → List ℕ) where
   abbrev after : S → List ℕ → S
@@ -43,31 +44,29 @@ module _ {S : Type 0} (start : S) (feed : S → ℕ → S) (answer : S → List 
       go false new on = on
 
   -- a chunk that has been read up to its byte i: whatever the rest gives after the text so far gives what the whole chunk gives
-  pub record Reading (chunk : List ℕ) (s₀ : S) (out₀ : List ℕ) (s : S) (out : List ℕ) (end i : ℕ) : Type 0 where
+  pub record Reading (chunk : List ℕ) (s₀ : S) (t₀ : Text) (s : S) (t : Text) (i : ℕ) : Type 0 where
     pub within : i ≤ length chunk
-    pub same : length out ≡ length out₀
     pub state : after s (drop i chunk) ≡ after s₀ chunk
-    pub told : (all : List ℕ) (last : ℕ) → Appends (text s (drop i chunk)) out end all last → Appends (text s₀ chunk) out₀ 0 all last
+    pub told : (all : Text) → Extends (text s (drop i chunk)) t all → Extends (text s₀ chunk) t₀ all
 
-  pub begun : (chunk : List ℕ) (s : S) (out : List ℕ) → Reading chunk s out s out 0 0
-  begun chunk s out = record { within = omega arith; same = refl; state = refl; told = λ all last a. a }
+  pub begun : (chunk : List ℕ) (s : S) (t : Text) → Reading chunk s t s t 0
+  begun chunk s t = record { within = omega arith; state = refl; told = λ all e. e }
 
-  module _ {chunk out₀ out : List ℕ} {s₀ s : S} {end i : ℕ} (r : Reading chunk s₀ out₀ s out end i) where
+  module _ {chunk : List ℕ} {s₀ s : S} {t₀ t : Text} {i : ℕ} (r : Reading chunk s₀ t₀ s t i) where
     -- a newline ends the line, and any other byte goes on with it
-    pub line_ended : {out' : List ℕ} {end' : ℕ} → i < length chunk → get_or chunk i 0 ≡ code "\n" → length out' ≡ length out
-        → Appends (answer s) out end out' end' → Reading chunk s₀ out₀ start out' end' (i + 1)
-    line_ended more n same a =
+    pub line_ended : {t' : Text} → i < length chunk → get_or chunk i 0 ≡ code "\n" → Extends (answer s) t t'
+        → Reading chunk s₀ t₀ start t' (i + 1)
+    line_ended more n a =
         let e = eq-eqb (get_or chunk i 0) (code "\n") n in
         let state : after s (drop i chunk) ≡ after start (drop (i + 1) chunk) = rw (add-one i, drop-cons chunk i 0) (simp e) in
         let answers : text s (drop i chunk) ≡ answer s ++ text start (drop (i + 1) chunk) = rw (add-one i, drop-cons chunk i 0) (simp e) in
         record {
           within = omega arith;
-          same = same ∙ r.same;
           state = sym state ∙ r.state;
-          told = λ all last b. r.told all last (rw answers (appends_both a b));
+          told = λ all b. r.told all (rw answers (extends_both a b));
         }
 
-    pub line_on : i < length chunk → (get_or chunk i 0 ≡ code "\n" → ⊥) → Reading chunk s₀ out₀ (feed s (get_or chunk i 0)) out end (i + 1)
+    pub line_on : i < length chunk → (get_or chunk i 0 ≡ code "\n" → ⊥) → Reading chunk s₀ t₀ (feed s (get_or chunk i 0)) t (i + 1)
     line_on more n =
         let e = ne_eqb (get_or chunk i 0) (code "\n") n in
         let state : after s (drop i chunk) ≡ after (feed s (get_or chunk i 0)) (drop (i + 1) chunk) =
@@ -76,9 +75,8 @@ module _ {S : Type 0} (start : S) (feed : S → ℕ → S) (answer : S → List 
         rw (add-one i, drop-cons chunk i 0) (simp e) in
         record {
           within = omega arith;
-          same = r.same;
           state = sym state ∙ r.state;
-          told = λ all last b. r.told all last (rw answers b);
+          told = λ all b. r.told all (rw answers b);
         }
 
     pub state_read : length chunk ≤ i → s ≡ after s₀ chunk
@@ -86,7 +84,7 @@ module _ {S : Type 0} (start : S) (feed : S → ℕ → S) (answer : S → List 
         let past : length chunk ≡ i = omega arith in
         rw (← past, drop-length) at r.state
 
-    pub text_read : length chunk ≤ i → Appends (text s₀ chunk) out₀ 0 out end
+    pub text_read : length chunk ≤ i → Extends (text s₀ chunk) t₀ t
     text_read h =
         let past : length chunk ≡ i = omega arith in
-        r.told out end (rw (← past, drop-length) (appends_none out end))
+        r.told t (rw (← past, drop-length) (extends_none t))

@@ -1,62 +1,69 @@
-// ASCII text: digits read, and bytes and numbers appended to a buffer.
-//
-// A text is the first `at` bytes of a buffer. What is appended goes from `at` on, and what has no room there is left out.
+// ASCII text: digits read, and bytes and numbers appended to a text in a lent buffer.
 #![tactic(auto)]
 
-ghost use Rattle.std.specs.Prelude.{◌≡◌};
+ghost use Rattle.std.specs.Prelude.{◌≡◌, take};
 ghost use Rattle.text.specs.Digit.{hex_digit};
-ghost use Rattle.text.specs.Append.{Appends};
+ghost use Rattle.text.specs.Append.{Extends};
 ghost use Rattle.text.specs.Numeral.{decimal_text, hex_text};
 
-// The value of a digit, or that a byte is none.
-#[derive(Clone, Copy)]
-pub enum Digit {
-    Value(u32),
-    None,
-}
-
-// A hexadecimal digit of either case.
-pub fn hex_digit(byte: u8) -> Digit
+// The value of a hexadecimal digit of either case.
+pub fn hex_digit(byte: u8) -> Option<u32>
     ensures { result ≡ hex_digit byte }
 {
-    match byte {
-        b'0'..=b'9' => Digit::Value((byte - b'0') as u32),
-        b'A'..=b'F' => Digit::Value((byte - b'A') as u32 + 10),
-        b'a'..=b'f' => Digit::Value((byte - b'a') as u32 + 10),
-        _ => Digit::None,
-    }
+    char::from(byte).to_digit(16)
 }
 
-// Appends bytes, and gives the text's new end.
-pub fn append(out: &mut [u8], at: usize, bytes: &[u8]) -> usize
-    ensures { Appends bytes.now out.old at out.new result }
-{
-    let mut end = at;
-    let mut i = 0;
-    while i < bytes.len() {
-        if end < out.len() {
-            out[end] = bytes[i];
-            end += 1;
+// A text: the first `end` bytes of a lent buffer. What is appended goes behind them, and what has no room there is left out.
+#[derive(Drop)]
+pub struct Text<'a> {
+    pub bytes: &'a mut [u8],
+    pub end: usize,
+}
+
+impl<'a> Text<'a> {
+    // No text yet, in a buffer.
+    pub fn new(bytes: &'a mut [u8]) -> Text<'a>
+        ensures buffer { result.bytes ≡ bytes.entry }
+        ensures empty { result.end ≡ 0 }
+    {
+        Text { bytes, end: 0 }
+    }
+
+    // The bytes of the text.
+    pub fn written(&self) -> &[u8]
+        ensures { result.now ≡ take self.now.end self.now.bytes.now }
+    {
+        &self.bytes[..self.end.min(self.bytes.len())]
+    }
+
+    // Appends bytes.
+    pub fn append(&mut self, bytes: &[u8])
+        ensures { Extends bytes.now self.old self.new }
+    {
+        let room = self.bytes.len().saturating_sub(self.end);
+        let n = bytes.len().min(room);
+        if n > 0 {
+            self.bytes[self.end..self.end + n].copy_from_slice(&bytes[..n]);
+            self.end += n;
         }
-        i += 1;
     }
-    end
-}
 
-// Appends a number in decimal.
-pub fn append_decimal(out: &mut [u8], at: usize, n: u64) -> usize
-    ensures { Appends (decimal_text n) out.old at out.new result }
-{
-    let mut digits = [0u8; 20];
-    let k = io::decimal(n, &mut digits);
-    append(out, at, &digits[..k])
-}
+    // Appends a number in decimal.
+    pub fn append_decimal(&mut self, n: u64)
+        ensures { Extends (decimal_text n) self.old self.new }
+    {
+        let mut digits = [0u8; 20];
+        let k = io::decimal(n, &mut digits);
+        self.append(&digits[..k]);
+    }
 
-// Appends a number in lowercase hexadecimal.
-pub fn append_hex(out: &mut [u8], at: usize, n: u64) -> usize
-    ensures { Appends (hex_text n) out.old at out.new result }
-{
-    let mut digits = [0u8; 16];
-    let k = io::hex(n, 1, &mut digits);
-    append(out, at, &digits[..k])
+    // Kept beside `append_decimal`: each has the toolchain's function, the definition and the room of its base.
+    // Appends a number in lowercase hexadecimal.
+    pub fn append_hex(&mut self, n: u64)
+        ensures { Extends (hex_text n) self.old self.new }
+    {
+        let mut digits = [0u8; 16];
+        let k = io::hex(n, 1, &mut digits);
+        self.append(&digits[..k]);
+    }
 }

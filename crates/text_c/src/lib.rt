@@ -1,5 +1,6 @@
 // What the program `explain` says of a word, of a whole trap and of a word of the short form, for other languages: as text in a buffer that
 // the caller lends. Each is the call of the same name of crate text_calls. A library of its own: it brings the manual's texts along.
+// Kept: the C interface: an exported name stands in the static library alone.
 #![tactic(auto)]
 
 ghost use Rattle.text.specs.Append.{Appends};

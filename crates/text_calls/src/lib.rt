@@ -8,12 +8,15 @@ ghost use Rattle.explain_text.specs.Trap.{trap_said};
 ghost use Rattle.short_text.specs.Said.{short_said};
 
 use registers::{Esr, Far, Hpfar, Hsr};
+use text::Text;
 
 // What is said of a word.
 pub fn knucklepin_explain_word_raw(edition: u32, esr: u64, text: &mut [u8]) -> u64
     ensures { Appends (word_said edition (record { 0 = esr })) text.old 0 text.new result }
 {
-    explain_text::word_said(text, 0, edition, Esr(esr)) as u64
+    let mut said = Text::new(text);
+    explain_text::word_said(&mut said, edition, Esr(esr));
+    said.end as u64
 }
 
 // What is said of a whole trap.
@@ -26,12 +29,16 @@ pub fn knucklepin_explain_trap_raw(
 ) -> u64
     ensures { Appends (trap_said edition (record { 0 = esr }) (record { 0 = far }) (record { 0 = hpfar })) text.old 0 text.new result }
 {
-    explain_text::trap_said(text, 0, edition, Esr(esr), Far(far), Hpfar(hpfar)) as u64
+    let mut said = Text::new(text);
+    explain_text::trap_said(&mut said, edition, Esr(esr), Far(far), Hpfar(hpfar));
+    said.end as u64
 }
 
 // What is said of a word of the short form.
 pub fn knucklepin_explain_short_raw(edition: u32, hsr: u32, text: &mut [u8]) -> u64
     ensures { Appends (short_said edition (record { 0 = hsr })) text.old 0 text.new result }
 {
-    short_text::said(text, 0, edition, Hsr(hsr)) as u64
+    let mut said = Text::new(text);
+    short_text::said(&mut said, edition, Hsr(hsr));
+    said.end as u64
 }

@@ -2,6 +2,9 @@
 -- Assumes nothing.
 use mathlib.Core.Path.{◌≡◌, refl, ◌∙◌, sym}
 use mathlib.Core.Bool.{Bool, true, false, not, ◌&&◌, ◌||◌, true≢false}
+use Rattle.std.specs.Prelude.{Result, Ok, Err}
+use Rattle.edition.specs.declared.Refusal.{Refusal}
+use Rattle.record.specs.declared.kinds.Record.{Record}
 use Prim.Native.Nat.{ℕ}
 use lib.Dec.{ltb, eqb}
 use borrow.Author.Tests.{eqb-true}
@@ -17,7 +20,6 @@ use Rattle.address.specs.Known.{far_counts}
 use Rattle.registers.specs.declared.Far.{Far}
 use Rattle.registers.specs.declared.Hpfar.{Hpfar}
 use Rattle.syndrome.specs.Reading.{read_of}
-use Rattle.syndrome.specs.declared.answer.Read.{Read}
 use Rattle.trap.specs.Numbers.{number_answer}
 use Rattle.trap.specs.Answer.{of_taken, far_right, answer_of}
 use Rattle.trap.proofs.Shown.{trap_refused_exactly}
@@ -56,13 +58,13 @@ extension_of_words r = by r.sse (ltb r.sas 2) (r.sf && eqb r.sas 2) r.wnr
     by false small false wnr = refl
 
 -- "FAR's upper half is free there, so refusal 8 isn't given"
-far_free : (a : Read) (far : Far) → of_taken (λ r. far_right Origin.AArch64 (addresses_of r) far) a ≡ true
-far_free (Read.Taken r) far = by (far_counts (addresses_of r))
+far_free : (a : Result Record Refusal) (far : Far) → of_taken (λ r. far_right Origin.AArch64 (addresses_of r) far) a ≡ true
+far_free (Ok r) far = by (far_counts (addresses_of r))
   where
     by : (counts : Bool) → (not counts || true) ≡ true
     by true = refl
     by false = refl
-far_free (Read.Refused refusal) far = refl
+far_free (Err refusal) far = refl
 
 pub no_eight : (e : ℕ) (esr : Esr) (far : Far) (hpfar : Hpfar) → number_answer (answer_of Origin.AArch64 e esr far hpfar) ≡ 8 → ⊥
 no_eight e esr far hpfar eight =

@@ -3,6 +3,9 @@
 use mathlib.Core.Path.{◌≡◌, refl, ◌∙◌, sym}
 use mathlib.Core.Bool.{Bool, true, false}
 use mathlib.Core.List.{[], ◌∷◌, ◌++◌}
+use Rattle.std.specs.Prelude.{Result, Ok, Err}
+use Rattle.edition.specs.declared.Refusal.{Refusal}
+use Rattle.trap.specs.declared.Trap.{Trap}
 use Prim.Native.Nat.{ℕ}
 use native.Mathlib.Omega.{arith}
 use Rattle.bits.specs.Decide.{needs, decide}
@@ -19,20 +22,17 @@ use Rattle.record.specs.declared.kinds.Record.{Record}
 use Rattle.registers.specs.declared.Far.{Far}
 use Rattle.registers.specs.declared.Hpfar.{Hpfar}
 use Rattle.syndrome.specs.Reading.{has_word, read_of, read_list, Reading}
-use Rattle.syndrome.specs.declared.answer.Read.{Read}
 use Rattle.syndrome.proofs.Promises.{reads}
 use Rattle.trap_refusal.specs.Numbers.{trap_number}
-use Rattle.trap.specs.Numbers.{number_answer, mask_answer, count_answer, number_both, mask_both, count_both}
+use Rattle.trap.specs.Numbers.{number_answer, mask_answer, count_answer}
 use Rattle.trap.specs.Trap.{trap_of}
 use Rattle.trap.specs.Answer.{of_taken, hpfar_right, far_right, answer_record, answer_read, answer_of, trap_list, TrapReading}
 use Rattle.trap.specs.Both.{both_from, both_of, BothReading}
 use Rattle.trap_refusal.specs.declared.TrapRefusal.{TrapRefusal}
-use Rattle.trap.specs.declared.Answer.{Answer}
-use Rattle.trap.specs.declared.Both.{Both}
 
 module _ (o : Origin) (esr : Esr) where
   -- the mask and the count of an answer, by its number
-  abbrev Names : Answer → Type 0
+  abbrev Names : Result Trap TrapRefusal → Type 0
   Names a =
       (mask_answer a ≡ six_only (number_answer a) (mask_of (λ x. has_word o x esr.0)))
       × (count_answer a ≡ six_only (number_answer a) (count_below editions (λ x. has_word o x esr.0)))
@@ -44,8 +44,8 @@ module _ (o : Origin) (esr : Esr) where
     where
       by : (h f : Bool)
           → Names
-          (decide (needs h (Answer.Refused TrapRefusal.Hpfar) ∷ needs f (Answer.Refused TrapRefusal.Far) ∷ [])
-          (Answer.Shown (trap_of r far hpfar)))
+          (decide (needs h (Err TrapRefusal.Hpfar) ∷ needs f (Err TrapRefusal.Far) ∷ [])
+          (Ok (trap_of r far hpfar)))
       by true true = (refl, refl)
       by true false = (refl, refl)
       by false f = (refl, refl)
@@ -55,9 +55,9 @@ module _ (o : Origin) (esr : Esr) where
     unfolding answer_of
     answer_names = by (read_of o e esr) (reads o e esr refl)
       where
-        by : (a : Read) → Reading o e esr a → Names (answer_read o e a far hpfar)
-        by (Read.Taken r) said = record_names e r far hpfar
-        by (Read.Refused f) said = (said.mask, said.count)
+        by : (a : Result Record Refusal) → Reading o e esr a → Names (answer_read o e a far hpfar)
+        by (Ok r) said = record_names e r far hpfar
+        by (Err f) said = (said.mask, said.count)
 
     -- the registers' tests of a record
     record_number : (r : Record)
@@ -66,24 +66,24 @@ module _ (o : Origin) (esr : Esr) where
     unfolding answer_record
     record_number r =
         decide_relabel number_answer
-        (needs (hpfar_right e (addresses_of r) hpfar) (Answer.Refused TrapRefusal.Hpfar)
-        ∷ needs (far_right o (addresses_of r) far) (Answer.Refused TrapRefusal.Far) ∷ [])
-        (Answer.Shown (trap_of r far hpfar))
+        (needs (hpfar_right e (addresses_of r) hpfar) (Err TrapRefusal.Hpfar)
+        ∷ needs (far_right o (addresses_of r) far) (Err TrapRefusal.Far) ∷ [])
+        (Ok (trap_of r far hpfar))
 
     -- a syndrome that is taken fails none of its tests, and the registers' follow; one that is refused fails one, and the registers' pass
     answer_number_lem : number_answer (answer_of o e esr far hpfar) ≡ decide (trap_list o e esr far hpfar) 0
     unfolding answer_of
     answer_number_lem = by (read_of o e esr) (reads o e esr refl)
       where
-        by : (a : Read) → Reading o e esr a
+        by : (a : Result Record Refusal) → Reading o e esr a
             → number_answer (answer_read o e a far hpfar)
             ≡ decide (read_list o e esr
             ++ (needs (of_taken (λ r. hpfar_right e (addresses_of r) hpfar) a) 7 ∷ needs (of_taken (λ r. far_right o (addresses_of r) far) a) 8
             ∷ [])) 0
-        by (Read.Taken r) said = record_number r ∙ sym (decide_zero (read_list o e esr) _ tt (sym said.number))
-        by (Read.Refused f) said = said.number
+        by (Ok r) said = record_number r ∙ sym (decide_zero (read_list o e esr) _ tt (sym said.number))
+        by (Err f) said = said.number
 
-    pub shows : {a : Answer} → a ≡ answer_of o e esr far hpfar → TrapReading o e esr far hpfar a
+    pub shows : {a : Result Trap TrapRefusal} → a ≡ answer_of o e esr far hpfar → TrapReading o e esr far hpfar a
     shows same = kept same record { answer = refl; number = answer_number_lem; mask = answer_names.0; count = answer_names.1 }
 
 -- no refusal has number 0
@@ -99,22 +99,22 @@ refused_number TrapRefusal.Far z = omega (arith, z)
 
 module _ (o : Origin) (first second : ℕ) (esr : Esr) (far : Far) (hpfar : Hpfar) where
   -- the first edition's number, or where it is 0 the second's
-  both_number : (a b : Answer) → number_answer a ≡ decide (trap_list o first esr far hpfar) 0
+  both_number : (a b : Result Trap TrapRefusal) → number_answer a ≡ decide (trap_list o first esr far hpfar) 0
       → number_answer b ≡ decide (trap_list o second esr far hpfar) 0
-      → number_both (both_from a b) ≡ decide (trap_list o first esr far hpfar) (decide (trap_list o second esr far hpfar) 0)
-  both_number (Answer.Shown t) (Answer.Shown s) p q = sym
+      → number_answer (both_from a b) ≡ decide (trap_list o first esr far hpfar) (decide (trap_list o second esr far hpfar) 0)
+  both_number (Ok t) (Ok s) p q = sym
       (decide_zero (trap_list o first esr far hpfar) (decide (trap_list o second esr far hpfar) 0) tt (sym p) ∙ sym q)
-  both_number (Answer.Shown t) (Answer.Refused f) p q = sym
+  both_number (Ok t) (Err f) p q = sym
       (decide_zero (trap_list o first esr far hpfar) (decide (trap_list o second esr far hpfar) 0) tt (sym p) ∙ sym q)
-  both_number (Answer.Refused f) b p q = p ∙ sym (decide_other (trap_list o first esr far hpfar)
+  both_number (Err f) b p q = p ∙ sym (decide_other (trap_list o first esr far hpfar)
       (decide (trap_list o second esr far hpfar) 0) (λ z. refused_number f (p ∙ z)))
 
-  both_names : (a b : Answer) → TrapReading o first esr far hpfar a → TrapReading o second esr far hpfar b
-      → (mask_both (both_from a b) ≡ six_only (number_both (both_from a b)) (mask_of (λ x. has_word o x esr.0)))
-      × (count_both (both_from a b) ≡ six_only (number_both (both_from a b)) (count_below editions (λ x. has_word o x esr.0)))
-  both_names (Answer.Shown t) (Answer.Shown s) p q = (refl, refl)
-  both_names (Answer.Shown t) (Answer.Refused f) p q = (q.mask, q.count)
-  both_names (Answer.Refused f) b p q = (p.mask, p.count)
+  both_names : (a b : Result Trap TrapRefusal) → TrapReading o first esr far hpfar a → TrapReading o second esr far hpfar b
+      → (mask_answer (both_from a b) ≡ six_only (number_answer (both_from a b)) (mask_of (λ x. has_word o x esr.0)))
+      × (count_answer (both_from a b) ≡ six_only (number_answer (both_from a b)) (count_below editions (λ x. has_word o x esr.0)))
+  both_names (Ok t) (Ok s) p q = (refl, refl)
+  both_names (Ok t) (Err f) p q = (q.mask, q.count)
+  both_names (Err f) b p q = (p.mask, p.count)
 
   both : BothReading o first second esr far hpfar (both_of o first second esr far hpfar)
   unfolding both_of
@@ -129,5 +129,5 @@ module _ (o : Origin) (first second : ℕ) (esr : Esr) (far : Far) (hpfar : Hpfa
         count = names.1;
       }
 
-  pub shows_both : {b : Both} → b ≡ both_of o first second esr far hpfar → BothReading o first second esr far hpfar b
+  pub shows_both : {b : Result (Trap × Trap) TrapRefusal} → b ≡ both_of o first second esr far hpfar → BothReading o first second esr far hpfar b
   shows_both same = kept same both

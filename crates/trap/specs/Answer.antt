@@ -1,6 +1,6 @@
 -- Reading a whole trap (01, 'Numbers a call may answer'): 1 to 6 as the syndrome reader gives them, then 7, then 8, or the trap. 8 is
 -- given from AArch32 alone (02, C-23).
-use Rattle.std.specs.Prelude.{ℕ, Bool, true, List, [], ◌∷◌, ◌++◌}
+use Rattle.std.specs.Prelude.{ℕ, Bool, true, List, [], ◌∷◌, ◌++◌, Option, Result, Ok, Err}
 use Rattle.bits.specs.Decide.{Test, needs, decide}
 use Rattle.edition.specs.Feature.{editions}
 use Rattle.edition.specs.Mask.{mask_of, count_below}
@@ -16,40 +16,40 @@ use Rattle.address.specs.Page.{hpfar_rule, far_rule}
 use Rattle.registers.specs.declared.Far.{Far}
 use Rattle.registers.specs.declared.Hpfar.{Hpfar}
 use Rattle.syndrome.specs.Reading.{has_word, read_of, read_list}
-use Rattle.syndrome.specs.declared.answer.Read.{Read}
 use Rattle.trap.specs.Numbers.{answer_said}
 use Rattle.trap.specs.Trap.{trap_of}
 use Rattle.trap_refusal.specs.declared.TrapRefusal.{TrapRefusal}
-use Rattle.trap.specs.declared.Answer.{Answer}
+use Rattle.trap.specs.declared.Trap.{Trap}
+use Rattle.edition.specs.declared.Refusal.{Refusal}
 
 -- 7: no bit outside HPFAR's field is set, where HPFAR counts
-abbrev pub hpfar_right : ℕ → Addresses → Hpfar → Bool
+abbrev pub hpfar_right : ℕ → Option Addresses → Hpfar → Bool
 hpfar_right e a hpfar = implies (hpfar_counts a) (hpfar_rule e hpfar)
 
 -- a test of the record that is taken: where the syndrome is refused, nothing is left to fail
-abbrev pub of_taken : (Record → Bool) → Read → Bool
-of_taken test (Read.Taken r) = test r
-of_taken test (Read.Refused refusal) = true
+abbrev pub of_taken : (Record → Bool) → Result Record Refusal → Bool
+of_taken test (Ok r) = test r
+of_taken test (Err refusal) = true
 
 module _ (o : Origin) where
   -- 8: bits 63:32 of FAR are zero, where FAR counts and the trap came from AArch32
-  abbrev pub far_right : Addresses → Far → Bool
+  abbrev pub far_right : Option Addresses → Far → Bool
   far_right a far = implies (far_counts a) (far_rule o far)
 
   -- the syndrome is taken: 7, then 8, then the trap
-  unfoldable pub answer_record : ℕ → Record → Far → Hpfar → Answer
+  unfoldable pub answer_record : ℕ → Record → Far → Hpfar → Result Trap TrapRefusal
   answer_record e r far hpfar =
       decide
-      (needs (hpfar_right e (addresses_of r) hpfar) (Answer.Refused TrapRefusal.Hpfar)
-      ∷ needs (far_right (addresses_of r) far) (Answer.Refused TrapRefusal.Far)
+      (needs (hpfar_right e (addresses_of r) hpfar) (Err TrapRefusal.Hpfar)
+      ∷ needs (far_right (addresses_of r) far) (Err TrapRefusal.Far)
       ∷ [])
-      (Answer.Shown (trap_of r far hpfar))
+      (Ok (trap_of r far hpfar))
 
-  abbrev pub answer_read : ℕ → Read → Far → Hpfar → Answer
-  answer_read e (Read.Taken r) far hpfar = answer_record e r far hpfar
-  answer_read e (Read.Refused refusal) far hpfar = Answer.Refused (TrapRefusal.Syndrome refusal)
+  abbrev pub answer_read : ℕ → Result Record Refusal → Far → Hpfar → Result Trap TrapRefusal
+  answer_read e (Ok r) far hpfar = answer_record e r far hpfar
+  answer_read e (Err refusal) far hpfar = Err (TrapRefusal.Syndrome refusal)
 
-  unfoldable pub answer_of : ℕ → Esr → Far → Hpfar → Answer
+  unfoldable pub answer_of : ℕ → Esr → Far → Hpfar → Result Trap TrapRefusal
   answer_of e esr far hpfar = answer_read e (read_of o e esr) far hpfar
 
   -- the tests, each with its number: the syndrome's, then those of the registers that count in the record that is taken
@@ -62,7 +62,7 @@ module _ (o : Origin) where
 
   -- THE PROMISE of reading a trap: the answer; its number, that of the first test that fails; and with 6 alone the mask of the editions
   -- that have the word, and how many they are
-  abbrev pub TrapReading : ℕ → Esr → Far → Hpfar → Answer → Type 0
+  abbrev pub TrapReading : ℕ → Esr → Far → Hpfar → Result Trap TrapRefusal → Type 0
   TrapReading e esr far hpfar =
       Promise answer_said (answer_of e esr far hpfar) (decide (trap_list e esr far hpfar) 0) (mask_of (λ x. has_word o x esr.0))
       (count_below editions (λ x. has_word o x esr.0))

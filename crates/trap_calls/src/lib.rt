@@ -4,14 +4,13 @@
 ghost use Rattle.std.specs.Prelude.{◌≡◌};
 ghost use Rattle.trap.specs.Answer.{answer_of};
 ghost use Rattle.esr_calls.specs.Calls.{origin_of};
-ghost use Rattle.trap_calls.specs.Whole.{syndrome_in, known_in, addresses_in, virtual_known, virtual_word, intermediate_known};
-ghost use Rattle.trap_calls.specs.Whole.{intermediate_word, TrapWords};
+ghost use Rattle.trap_calls.specs.Whole.{syndrome_in, known_in, addresses_in, intermediate_known, intermediate_word, TrapWords};
 
-use address::{IntermediateAddress, VirtualAddress};
+use address::IntermediateAddress;
 use esr_calls::origin_of;
 use record::Record;
 use registers::{Esr, Far, Hpfar};
-use trap::{Answer, Trap};
+use trap::Trap;
 
 fn syndrome_in(trap: Trap) -> Record
     ensures { result ≡ syndrome_in trap }
@@ -23,54 +22,36 @@ fn syndrome_in(trap: Trap) -> Record
     }
 }
 
-fn virtual_known(address: VirtualAddress) -> u32
-    ensures { result ≡ virtual_known address }
-{
-    match address {
-        VirtualAddress::Known(_) => 1,
-        VirtualAddress::Unknown => 0,
-    }
-}
-
-fn virtual_word(address: VirtualAddress) -> u64
-    ensures { result ≡ virtual_word address }
-{
-    match address {
-        VirtualAddress::Known(n) => n,
-        VirtualAddress::Unknown => 0,
-    }
-}
-
-fn intermediate_known(address: IntermediateAddress) -> u32
+fn intermediate_known(address: Option<IntermediateAddress>) -> u32
     ensures { result ≡ intermediate_known address }
 {
     match address {
-        IntermediateAddress::None => 0,
-        IntermediateAddress::Page(_) => 1,
-        IntermediateAddress::Byte(_) => 2,
+        None => 0,
+        Some(IntermediateAddress::Page(_)) => 1,
+        Some(IntermediateAddress::Byte(_)) => 2,
     }
 }
 
-fn intermediate_word(address: IntermediateAddress) -> u64
+fn intermediate_word(address: Option<IntermediateAddress>) -> u64
     ensures { result ≡ intermediate_word address }
 {
     match address {
-        IntermediateAddress::None => 0,
-        IntermediateAddress::Page(n) => n,
-        IntermediateAddress::Byte(n) => n,
+        None => 0,
+        Some(IntermediateAddress::Page(n) | IntermediateAddress::Byte(n)) => n,
     }
 }
 
+// Kept: numbers for kinds: the C interface.
 // The trap's sort, whether its virtual address is known, and which intermediate address is.
 fn known_in(trap: Trap) -> [u32; 3]
     ensures { result ≡ known_in trap }
 {
     match trap {
-        Trap::Abort(t) => {
-            let address = t.address;
-            let intermediate = t.intermediate;
-            [0, virtual_known(address), intermediate_known(intermediate)]
-        }
+        Trap::Abort(t) => [
+            0,
+            t.address.is_some() as u32,
+            intermediate_known(t.intermediate),
+        ],
         Trap::Addressed(_) => [1, 1, 0],
         Trap::Plain(_) => [2, 0, 0],
     }
@@ -80,11 +61,7 @@ fn addresses_in(trap: Trap) -> [u64; 2]
     ensures { result ≡ addresses_in trap }
 {
     match trap {
-        Trap::Abort(t) => {
-            let address = t.address;
-            let intermediate = t.intermediate;
-            [virtual_word(address), intermediate_word(intermediate)]
-        }
+        Trap::Abort(t) => [t.address.unwrap_or(0), intermediate_word(t.intermediate)],
         Trap::Addressed(t) => [t.address, 0],
         Trap::Plain(_) => [0, 0],
     }
@@ -105,14 +82,14 @@ pub fn knucklepin_trap_read_raw(
     ensures { TrapWords (answer_of (origin_of origin) edition (record { 0 = esr }) (record { 0 = far }) (record { 0 = hpfar })) result syndrome.new known.new addresses.new editions.new }
 {
     match trap::read(origin_of(origin), edition, Esr(esr), Far(far), Hpfar(hpfar)) {
-        Answer::Shown(shown) => {
+        Ok(shown) => {
             *syndrome = record_words::words_of(syndrome_in(shown));
             *known = known_in(shown);
             *addresses = addresses_in(shown);
             *editions = [0, 0];
             0
         }
-        Answer::Refused(refusal) => {
+        Err(refusal) => {
             *syndrome = [0u32; 16];
             *known = [0, 0, 0];
             *addresses = [0, 0];

@@ -6,13 +6,13 @@ use Prim.Native.Nat.{ℕ, zero, suc, ◌+◌, ◌*◌, ◌≤◌, ◌<◌}
 use native.Mathlib.Nat.{add-zero}
 use native.Mathlib.Numerals.{add-one}
 use native.Mathlib.Omega.{arith}
+use Rattle.std.specs.Prelude.{Option, Some, None, Ok}
 use lib.ListN.{length, drop, get_or, length-drop}
 use lib.Seq.{drop-drop}
 use Rattle.log_section.specs.Section.{injection_size, sizes, end_of, section_of, rest_after, count_after}
 use Rattle.log_section.specs.Log.{Address, nowhere, byte_in, bytes_word, pair_in, injection_in, injection_byte, domain_of, entries_of, body_after}
 use Rattle.trap_log.specs.Answer.{read_of}
 use Rattle.log_section.specs.Look.{section_at, moved_past, skip_from, entry_in, look_at, start_after, entry_given}
-use Rattle.trap_log.specs.declared.answer.Read.TheVariants.{Accepted}
 use Rattle.log_section.specs.declared.section.Section.{Section}
 use Rattle.log_section.specs.declared.entry.Entry.{Entry}
 use Rattle.log_section.proofs.Codec.{entry_at_lem}
@@ -28,7 +28,7 @@ rest_at s (suc n) =
     let end = end_of size (rest_after s n) in
     ap (drop end) (rest_at s n) ∙ drop-drop end (start_after s n) s
 
-module _ (s : List ℕ) {gone : ℕ} (e : read_of s ≡ Accepted gone) where
+module _ (s : List ℕ) {gone : ℕ} (e : read_of s ≡ Ok gone) where
   whole_section : (n : ℕ) → n < 4 → Whole (get_or sizes n 0) (rest_after s n)
   whole_section zero h = (accepts s e).editions
   whole_section (suc zero) h = (accepts s e).syndromes
@@ -50,7 +50,7 @@ module _ (s : List ℕ) {gone : ℕ} (e : read_of s ≡ Accepted gone) where
 
   -- each section stands at its start, with its count
   pub section_stands_at : (n : ℕ) → n < 4 → section_at s n (start_after s n)
-      ≡ Section.Whole (count_after s n) (end_of (get_or sizes n 0) (rest_after s n))
+      ≡ Some record { count = count_after s n; end = end_of (get_or sizes n 0) (rest_after s n) }
   section_stands_at n h =
       let w = whole_section n h in
       sym (place_in s n (start_after s n) h (start_within n (omega arith)))
@@ -63,7 +63,7 @@ module _ (s : List ℕ) {gone : ℕ} (e : read_of s ≡ Accepted gone) where
       → skip_from s n record { passed = k; at = start_after s k } ≡ record { passed = k + n; at = start_after s (k + n) }
   moved_to zero k h = rw add-zero
   moved_to (suc n) k h =
-      ap (λ (x : Section). skip_from s n (moved_past x record { passed = k; at = start_after s k })) (section_stands_at k (omega arith))
+      ap (λ (x : Option Section). skip_from s n (moved_past x record { passed = k; at = start_after s k })) (section_stands_at k (omega arith))
       ∙ ap (λ (m : ℕ). skip_from s n record { passed = m; at = start_after s k + end_of (get_or sizes k 0) (rest_after s k) }) (add-one k)
       ∙ moved_to n (suc k) (omega arith) ∙ ap (λ (m : ℕ). record { passed = m; at = start_after s m }) (omega arith)
 
@@ -89,19 +89,20 @@ module _ (s : List ℕ) {gone : ℕ} (e : read_of s ≡ Accepted gone) where
 
   pub entry_found : (n i : ℕ) → n < 4 → i < count_after s n
       → look_at s n (start_after s n) i ≡ record {
-        section = Section.Whole (count_after s n) (end_of (get_or sizes n 0) (rest_after s n));
-        entry
-            = entry_given (entries_of s) n i;
+        section = Some record { count = count_after s n; end = end_of (get_or sizes n 0) (rest_after s n) };
+        entry = Some (entry_given (entries_of s) n i);
       }
   entry_found n i h k =
       sym (look_found s n (start_after s n) i (section_stands_at n h) k)
-      ∙ ap (λ (x : Entry). record { section = Section.Whole (count_after s n) (end_of (get_or sizes n 0) (rest_after s n)); entry = x })
+      ∙ ap (λ (x : Entry). record {
+        section = Some record { count = count_after s n; end = end_of (get_or sizes n 0) (rest_after s n) };
+        entry = Some x;
+      })
       (ap (entry_in n) (body_at n i) ∙ given_in_lem n i h k)
 
   pub entry_past : (n i : ℕ) → n < 4 → count_after s n ≤ i
       → look_at s n (start_after s n) i ≡ record {
-        section = Section.Whole (count_after s n) (end_of (get_or sizes n 0) (rest_after s n));
-        entry
-            = Entry.None;
+        section = Some record { count = count_after s n; end = end_of (get_or sizes n 0) (rest_after s n) };
+        entry = None;
       }
   entry_past n i h k = sym (look_past s n (start_after s n) i (section_stands_at n h) k)

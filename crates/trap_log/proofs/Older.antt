@@ -7,12 +7,13 @@ use Prim.Native.Nat.{ℕ, ◌+◌, ◌*◌, ◌≤◌, ◌<◌}
 use native.Mathlib.Omega.{arith}
 use borrow.Author.Tests.{le-leb}
 use lib.Dec.{lit≤}
+use Rattle.std.specs.Prelude.{Ok, Err}
 use lib.ListN.{length}
 use Rattle.log_section.specs.Section.{injection_size, whole_after, rest_after}
 use Rattle.log_section.specs.Log.{Entries, byte, section_bytes, log_of, entries_of}
 use Rattle.trap_log.specs.Answer.{read_of}
 use Rattle.trap_log.specs.Older.{older_log}
-use Rattle.trap_log.specs.declared.answer.Read.TheVariants.{Accepted, CutShort}
+use Rattle.trap_log.specs.declared.answer.LogRefusal.TheVariants.{CutShort}
 use Rattle.trap_log.proofs.Answers.{cut_short_exactly}
 use Rattle.log_section.proofs.Codec.{Stands}
 use Rattle.log_section.proofs.Found.{not_found, entries_cut}
@@ -48,7 +49,7 @@ module _ (e : Entries) (short : length (older_log e) ≤ 65536) where
       not_found injection_size (rest_after s 3)
       (sym (entries_cut injection_size (rest_after s 3) (omega (arith, left)) (omega (arith, left, counted.counts))))
 
-  pub older_refused : 0 < length e.injections → read_of (older_log e) ≡ CutShort 4
+  pub older_refused : 0 < length e.injections → read_of (older_log e) ≡ Err (CutShort 4)
   older_refused some =
       (cut_short_exactly s 4 (lit≤ tt) (lit≤ tt)).1 (
         le-leb (length s) 65536 short,
@@ -67,8 +68,8 @@ unfolding older_log log_of
 older_same e nothing = rw (none e.injections nothing)
 
 pub older_accepted : (e : Entries) → Writable e → length e.injections ≡ 0
-    → read_of (older_log e) ≡ Accepted (4 + length e.editions + length e.syndromes + length e.addresses)
-older_accepted e w nothing = ap read_of (older_same e nothing) ∙ log_accepted e w ∙ ap Accepted (omega arith)
+    → read_of (older_log e) ≡ Ok (4 + length e.editions + length e.syndromes + length e.addresses)
+older_accepted e w nothing = ap read_of (older_same e nothing) ∙ log_accepted e w ∙ ap Ok (omega arith)
 
 pub older_entries : (e : Entries) → Writable e → length e.injections ≡ 0 → entries_of (older_log e) ≡ e
 older_entries e w nothing = ap entries_of (older_same e nothing) ∙ log_entries e w

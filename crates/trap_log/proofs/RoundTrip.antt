@@ -8,6 +8,7 @@ use native.Mathlib.Nat.{le-mul_of_pos_right}
 use native.Mathlib.Omega.{arith}
 use borrow.Author.Tests.{le-leb, leb-true, eq-eqb, eqb-true}
 use lib.Dec.{lit<}
+use Rattle.std.specs.Prelude.{Ok}
 use lib.ListN.{length, take, drop, get_or, length-append, length-drop}
 use lib.Seq.{take_at, drop_at, take-add, length-take-le}
 use Rattle.log_section.specs.Number.{little, number, Bytes}
@@ -16,7 +17,6 @@ use Rattle.log_section.specs.Section.{injection_size, sizes, count_of, end_of, a
 use Rattle.log_section.specs.Log.{Address, Entries, byte, word, pair, injection, bytes_word, pair_in, domains_fit, section_bytes, entries_in}
 use Rattle.log_section.specs.Log.{log_of, body_after, injections_of, entries_of, gone_through}
 use Rattle.trap_log.specs.Answer.{read_tests, read_of}
-use Rattle.trap_log.specs.declared.answer.Read.TheVariants.{Accepted}
 use Rattle.trap_log.proofs.Answers.{Gone, read_gone, all_passed}
 use Rattle.log_section.proofs.Numbers.{length_little, number_little, little_number, bytes_drop, bytes_take}
 use Rattle.log_section.proofs.Found.{Whole, whole_is}
@@ -87,7 +87,7 @@ pair_again s b h =
 pub pairs_length : (entries : List Address) → length (section_bytes pair entries) ≡ 4 + length entries * 16
 pairs_length = section_length 16 pair pair_in PairFits pair_sized pair_back pair_again
 
--- what `Accepted` says of a log
+-- what `Ok` says of a log
 pub record Accepts (s : List ℕ) (gone : ℕ) : Type 0 where
   pub short : length s ≤ 65536
   pub editions : Whole 1 (rest_after s 0)
@@ -99,7 +99,7 @@ pub record Accepts (s : List ℕ) (gone : ℕ) : Type 0 where
   pub domains : domains_fit (injections_of s) ≡ true
   pub told : gone ≡ gone_through s
 
-pub accepts : (s : List ℕ) {gone : ℕ} → read_of s ≡ Accepted gone → Accepts s gone
+pub accepts : (s : List ℕ) {gone : ℕ} → read_of s ≡ Ok gone → Accepts s gone
 accepts s e =
     let f = all_passed s e in
     record {
@@ -119,7 +119,7 @@ gone_section : (size : ℕ) → 0 < size → (s : List ℕ) → Whole size s →
 gone_section size some s w =
     omega (arith, w.within, le-mul_of_pos_right (count_of s) some, length-drop (end_of size s) s)
 
-pub gone_bound : (s : List ℕ) {gone : ℕ} → read_of s ≡ Accepted gone → (gone ≡ gone_through s) × (gone ≤ length s - 12)
+pub gone_bound : (s : List ℕ) {gone : ℕ} → read_of s ≡ Ok gone → (gone ≡ gone_through s) × (gone ≤ length s - 12)
 gone_bound s e =
     let a = accepts s e in (
       a.told,
@@ -138,7 +138,7 @@ module _ (s : List ℕ) (b : Bytes s) where
   bytes_after zero = b
   bytes_after (suc n) = bytes_drop (end_of (get_or sizes n 0) (rest_after s n)) (rest_after s n) (bytes_after n)
 
-  pub log_again : {gone : ℕ} → read_of s ≡ Accepted gone → log_of (entries_of s) ≡ s
+  pub log_again : {gone : ℕ} → read_of s ≡ Ok gone → log_of (entries_of s) ≡ s
   unfolding log_of entries_of
   log_again e =
       let a = accepts s e in
@@ -149,14 +149,14 @@ module _ (s : List ℕ) (b : Bytes s) where
       rw (fourth, third, second, first)
 
 -- its syndromes and addresses agree
-pub entries_agree : (s : List ℕ) {gone : ℕ} → read_of s ≡ Accepted gone → length (entries_of s).syndromes ≡ length (entries_of s).addresses
+pub entries_agree : (s : List ℕ) {gone : ℕ} → read_of s ≡ Ok gone → length (entries_of s).syndromes ≡ length (entries_of s).addresses
 unfolding entries_of
 entries_agree s e =
     entries_count 8 bytes_word (count_after s 1) (body_after s 1) ∙ (accepts s e).agree
     ∙ sym (entries_count 16 pair_in (count_after s 2) (body_after s 2))
 
 -- and each of its domains is at most 15
-pub entries_fit : (s : List ℕ) {gone : ℕ} → read_of s ≡ Accepted gone → domains_fit (entries_of s).injections ≡ true
+pub entries_fit : (s : List ℕ) {gone : ℕ} → read_of s ≡ Ok gone → domains_fit (entries_of s).injections ≡ true
 unfolding entries_of
 entries_fit s e = (accepts s e).domains
 
@@ -253,10 +253,10 @@ module _ (e : Entries) (w : Writable e) where
   injections_back = numbers_read injection_size e.injections [] (rest_after s 3) few.3 ends w.injections
 
   pub log_accepted : read_of (log_of e)
-      ≡ Accepted (4 + length e.editions + length e.syndromes + length e.addresses + length e.injections)
+      ≡ Ok (4 + length e.editions + length e.syndromes + length e.addresses + length e.injections)
   unfolding read_of
   log_accepted =
-      all_pass (read_tests s) (Accepted (gone_through s)) (
+      all_pass (read_tests s) (Ok (gone_through s)) (
         le-leb (length s) 65536 w.short,
         (
           editions.whole,
@@ -278,7 +278,7 @@ module _ (e : Entries) (w : Writable e) where
           ),
         ),
       )
-      ∙ (ap Accepted (omega (arith, editions.counts, syndromes.counts, addresses.counts, injections.counts)))
+      ∙ (ap Ok (omega (arith, editions.counts, syndromes.counts, addresses.counts, injections.counts)))
 
   pub log_entries : entries_of (log_of e) ≡ e
   unfolding entries_of

@@ -8,7 +8,7 @@ ghost use Rattle.trap_log.specs.Answer.{Reading};
 mod answer;
 mod sections;
 
-pub use answer::{Read, gone_in, number, section_in};
+pub use answer::{LogRefusal, gone_in, number, section_in};
 pub use log_section::{Entry, Look, Place, Section, entry_at, front, look_at, size_of, skip};
 pub use sections::LAST_DOMAIN;
 
@@ -16,11 +16,11 @@ pub use sections::LAST_DOMAIN;
 pub const MOST: usize = 65536;
 
 // Reads a log.
-pub fn read(log: &[u8]) -> Read
+pub fn read(log: &[u8]) -> Result<usize, LogRefusal>
     ensures { Reading log.now result }
 {
     if MOST < log.len() {
-        return Read::TooLong;
+        return Err(LogRefusal::TooLong);
     }
-    sections::editions(log)
+    sections::read_all(log)
 }

@@ -7,7 +7,7 @@ ghost use Rattle.trap_refusal.specs.Numbers.{trap_number, trap_mask, trap_count}
 use edition::Refusal;
 
 // Why a trap is refused: as its syndrome is, or by an address register.
-#[derive(Clone, Copy)]
+#[derive(Clone, Copy, PartialEq, Eq)]
 pub enum TrapRefusal {
     // 1 to 6.
     Syndrome(Refusal),
@@ -17,6 +17,7 @@ pub enum TrapRefusal {
     Far,
 }
 
+// Kept: a refusal's number, mask and count are what the C interface hands out.
 // The refusal's number in the definition.
 pub fn number(refusal: TrapRefusal) -> u32
     ensures { result ≡ trap_number refusal }

@@ -8,7 +8,6 @@ use lib.ListN.{length, length-append}
 use Rattle.registers.specs.declared.Far.{Far}
 use Rattle.registers.specs.declared.Hpfar.{Hpfar}
 use Rattle.address.specs.declared.IntermediateAddress.{IntermediateAddress}
-use Rattle.address.specs.declared.VirtualAddress.{VirtualAddress}
 use Rattle.bits.specs.Field.{bit_of}
 use Rattle.edition.specs.Feature.{editions}
 use Rattle.explain_text.specs.Trap.{trap_said}
@@ -20,25 +19,27 @@ use Rattle.record.specs.declared.origin.Origin.{Origin}
 use Rattle.trap.specs.Answer.{answer_of}
 use Rattle.trap_refusal.specs.Numbers.{trap_number, trap_mask, trap_count}
 use Rattle.trap.specs.Trap.{virtual_in, intermediate_in}
-use Rattle.trap.specs.declared.Answer.{Answer}
 use Rattle.trap_text.specs.Shown.{virtual_text, intermediate_text, answer_text, shown_text, told_text, lines_below}
 use Rattle.trap_text.specs.Shown.{trap_text}
+use Rattle.trap.specs.declared.Trap.{Trap}
+use Rattle.trap_refusal.specs.declared.TrapRefusal.{TrapRefusal}
+use Rattle.std.specs.Prelude.{Result, Ok, Err, Option, Some, None}
 
-virtual_length : (a : VirtualAddress) → length (virtual_text a) ≤ 32
-virtual_length (VirtualAddress.Known address) = let n = hex_field_length address in simp length-append (omega arith)
-virtual_length VirtualAddress.Unknown = omega arith
+virtual_length : (a : Option ℕ) → length (virtual_text a) ≤ 32
+virtual_length (Some address) = let n = hex_field_length address in simp length-append (omega arith)
+virtual_length None = omega arith
 
-intermediate_length : (a : IntermediateAddress) → length (intermediate_text a) ≤ 32
-intermediate_length IntermediateAddress.None = omega arith
-intermediate_length (IntermediateAddress.Page address) = let n = hex_field_length address in simp length-append (omega arith)
-intermediate_length (IntermediateAddress.Byte address) = let n = hex_field_length address in simp length-append (omega arith)
+intermediate_length : (a : Option IntermediateAddress) → length (intermediate_text a) ≤ 32
+intermediate_length None = omega arith
+intermediate_length (Some (IntermediateAddress.Page address)) = let n = hex_field_length address in simp length-append (omega arith)
+intermediate_length (Some (IntermediateAddress.Byte address)) = let n = hex_field_length address in simp length-append (omega arith)
 
-answer_length : (a : Answer) → length (answer_text a) ≤ 80
-answer_length (Answer.Shown t) =
+answer_length : (a : Result Trap TrapRefusal) → length (answer_text a) ≤ 80
+answer_length (Ok t) =
     let v = virtual_length (virtual_in t) in
     let i = intermediate_length (intermediate_in t) in
     simp length-append (omega arith)
-answer_length (Answer.Refused r) =
+answer_length (Err r) =
     let n = decimal_field_length (trap_number r) in
     let m = decimal_field_length (trap_mask r) in
     let c = decimal_field_length (trap_count r) in

@@ -1,7 +1,7 @@
 -- The whole trap's answer in one edition, as a line: the addresses that are known, or the refusal's number, mask and number of ones. And a
 -- trap as its lines: its registers, and its answer in each edition of a mask, explained where that is asked for. A log holds traps from
 -- AArch32 (02, C-23).
-use Rattle.std.specs.Prelude.{ℕ, zero, suc, Bool, cond, List, [], ◌++◌}
+use Rattle.std.specs.Prelude.{ℕ, zero, suc, Bool, cond, List, [], ◌++◌, Result, Ok, Err, Option, Some, None}
 use Rattle.bits.specs.Field.{bit_of}
 use Rattle.edition.specs.Feature.{editions}
 use Rattle.explain_text.specs.Trap.{trap_said}
@@ -13,21 +13,19 @@ use Rattle.trap.specs.Answer.{answer_of}
 use Rattle.trap.specs.Trap.{virtual_in, intermediate_in}
 use Rattle.registers.specs.declared.Far.{Far}
 use Rattle.registers.specs.declared.Hpfar.{Hpfar}
-use Rattle.address.specs.declared.VirtualAddress.{VirtualAddress}
 use Rattle.address.specs.declared.IntermediateAddress.{IntermediateAddress}
 use Rattle.trap.specs.declared.Trap.{Trap}
 use Rattle.trap_refusal.specs.declared.TrapRefusal.{TrapRefusal}
-use Rattle.trap.specs.declared.Answer.{Answer}
 use Rattle.log_text.specs.Lines.{decimal_field, hex_field, edition_field, words_text}
 
-abbrev pub virtual_text : VirtualAddress → List ℕ
-virtual_text (VirtualAddress.Known address) = ascii " virtual" ++ hex_field address
-virtual_text VirtualAddress.Unknown = []
+abbrev pub virtual_text : Option ℕ → List ℕ
+virtual_text (Some address) = ascii " virtual" ++ hex_field address
+virtual_text None = []
 
-abbrev pub intermediate_text : IntermediateAddress → List ℕ
-intermediate_text IntermediateAddress.None = []
-intermediate_text (IntermediateAddress.Page address) = ascii " page" ++ hex_field address
-intermediate_text (IntermediateAddress.Byte address) = ascii " byte" ++ hex_field address
+abbrev pub intermediate_text : Option IntermediateAddress → List ℕ
+intermediate_text None = []
+intermediate_text (Some (IntermediateAddress.Page address)) = ascii " page" ++ hex_field address
+intermediate_text (Some (IntermediateAddress.Byte address)) = ascii " byte" ++ hex_field address
 
 abbrev pub taken_text : Trap → List ℕ
 taken_text t = ascii " taken" ++ virtual_text (virtual_in t) ++ intermediate_text (intermediate_in t)
@@ -35,9 +33,9 @@ taken_text t = ascii " taken" ++ virtual_text (virtual_in t) ++ intermediate_tex
 abbrev pub refusal_text : TrapRefusal → List ℕ
 refusal_text r = ascii " refused" ++ decimal_field (trap_number r) ++ decimal_field (trap_mask r) ++ decimal_field (trap_count r)
 
-abbrev pub answer_text : Answer → List ℕ
-answer_text (Answer.Shown t) = taken_text t
-answer_text (Answer.Refused r) = refusal_text r
+abbrev pub answer_text : Result Trap TrapRefusal → List ℕ
+answer_text (Ok t) = taken_text t
+answer_text (Err r) = refusal_text r
 
 abbrev pub shown_text : ℕ → Esr → Far → Hpfar → List ℕ
 shown_text edition esr far hpfar = ascii "in" ++ edition_field edition ++ answer_text (answer_of Origin.AArch32 edition esr far hpfar)

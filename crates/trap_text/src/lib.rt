@@ -1,175 +1,132 @@
-// The whole trap's answer in an edition as a line of text, and a trap as its lines in several editions, explained where that is asked for,
-// appended to a buffer as `text::append` does.
+// The whole trap's answer in an edition as a line of text, and a trap as its lines in several editions, explained where that is asked for.
 #![tactic(auto)]
 
 ghost use Rattle.std.specs.Prelude.{cond, []};
 ghost use Rattle.bits.specs.Field.{bit_of};
 ghost use Rattle.edition.specs.Feature.{editions};
-ghost use Rattle.text.specs.Append.{Appends};
+ghost use Rattle.text.specs.Append.{Extends};
 ghost use Rattle.trap_text.specs.Shown.{virtual_text, intermediate_text, taken_text, refusal_text, answer_text, shown_text, lines_below};
 ghost use Rattle.trap_text.specs.Shown.{told_text, trap_text};
 
-use address::{IntermediateAddress, VirtualAddress};
+use address::IntermediateAddress;
 use log_text::{decimal_field, edition_field, hex_field};
 use record::Origin;
 use registers::{Esr, Far, Hpfar};
-use trap::{Answer, Trap, TrapRefusal};
+use text::Text;
+use trap::{Trap, TrapRefusal};
 
-fn virtual_field(out: &mut [u8], at: usize, address: VirtualAddress) -> usize
-    ensures { Appends (virtual_text address) out.old at out.new result }
+fn virtual_field(text: &mut Text<'_>, address: Option<u64>)
+    ensures { Extends (virtual_text address) text.old text.new }
 {
     match address {
-        VirtualAddress::Known(a) => {
-            let word = text::append(out, at, b" virtual");
-            hex_field(out, word, a)
+        Some(a) => {
+            text.append(b" virtual");
+            hex_field(text, a);
         }
-        VirtualAddress::Unknown => at,
+        None => {}
     }
 }
 
-fn intermediate_field(out: &mut [u8], at: usize, address: IntermediateAddress) -> usize
-    ensures { Appends (intermediate_text address) out.old at out.new result }
+fn intermediate_field(text: &mut Text<'_>, address: Option<IntermediateAddress>)
+    ensures { Extends (intermediate_text address) text.old text.new }
 {
-    match address {
-        IntermediateAddress::None => at,
+    let Some(known) = address else {
+        return;
+    };
+    match known {
         IntermediateAddress::Page(a) => {
-            let word = text::append(out, at, b" page");
-            hex_field(out, word, a)
+            text.append(b" page");
+            hex_field(text, a);
         }
         IntermediateAddress::Byte(a) => {
-            let word = text::append(out, at, b" byte");
-            hex_field(out, word, a)
+            text.append(b" byte");
+            hex_field(text, a);
         }
     }
 }
 
-fn addresses(out: &mut [u8], at: usize, t: Trap) -> usize
-    ensures { Appends (taken_text t) out.old at out.new result }
+fn addresses(text: &mut Text<'_>, t: Trap)
+    ensures { Extends (taken_text t) text.old text.new }
 {
-    let word = text::append(out, at, b" taken");
+    text.append(b" taken");
     match t {
         Trap::Abort(a) => {
-            let address = a.address;
-            let intermediate = a.intermediate;
-            let first = virtual_field(out, word, address);
-            intermediate_field(out, first, intermediate)
+            virtual_field(text, a.address);
+            intermediate_field(text, a.intermediate);
         }
-        Trap::Addressed(a) => virtual_field(out, word, VirtualAddress::Known(a.address)),
-        Trap::Plain(_) => word,
+        Trap::Addressed(a) => virtual_field(text, Some(a.address)),
+        Trap::Plain(_) => {}
     }
 }
 
-fn refusal(out: &mut [u8], at: usize, r: TrapRefusal) -> usize
-    ensures { Appends (refusal_text r) out.old at out.new result }
+fn refusal(text: &mut Text<'_>, r: TrapRefusal)
+    ensures { Extends (refusal_text r) text.old text.new }
 {
-    let word = text::append(out, at, b" refused");
-    let number = decimal_field(out, word, trap::number(r) as u64);
-    let mask = decimal_field(out, number, trap::mask(r) as u64);
-    decimal_field(out, mask, trap::count(r) as u64)
+    text.append(b" refused");
+    decimal_field(text, trap::number(r) as u64);
+    decimal_field(text, trap::mask(r) as u64);
+    decimal_field(text, trap::count(r) as u64);
 }
 
-fn answer(out: &mut [u8], at: usize, a: Answer) -> usize
-    ensures { Appends (answer_text a) out.old at out.new result }
+fn answer(text: &mut Text<'_>, a: Result<Trap, TrapRefusal>)
+    ensures { Extends (answer_text a) text.old text.new }
 {
     match a {
-        Answer::Shown(t) => addresses(out, at, t),
-        Answer::Refused(r) => refusal(out, at, r),
+        Ok(t) => addresses(text, t),
+        Err(r) => refusal(text, r),
     }
 }
 
 // What an edition makes of a trap: a log holds traps from AArch32.
-pub fn shown_line(
-    out: &mut [u8],
-    at: usize,
-    edition: u32,
-    esr: Esr,
-    far: Far,
-    hpfar: Hpfar,
-) -> usize
-    ensures { Appends (shown_text edition esr far hpfar) out.old at out.new result }
+pub fn shown_line(text: &mut Text<'_>, edition: u32, esr: Esr, far: Far, hpfar: Hpfar)
+    ensures { Extends (shown_text edition esr far hpfar) text.old text.new }
 {
-    let word = text::append(out, at, b"in");
-    let number = edition_field(out, word, edition);
-    let told = answer(
-        out,
-        number,
-        trap::read(Origin::AArch32, edition, esr, far, hpfar),
-    );
-    text::append(out, told, b"\n")
+    text.append(b"in");
+    edition_field(text, edition);
+    answer(text, trap::read(Origin::AArch32, edition, esr, far, hpfar));
+    text.append(b"\n");
 }
 
 // The line, and behind it what is said of the trap, where that is asked for.
-fn told_lines(
-    out: &mut [u8],
-    at: usize,
-    explained: bool,
-    edition: u32,
-    esr: Esr,
-    far: Far,
-    hpfar: Hpfar,
-) -> usize
-    ensures { Appends (told_text explained edition esr far hpfar) out.old at out.new result }
+fn told_lines(text: &mut Text<'_>, explained: bool, edition: u32, esr: Esr, far: Far, hpfar: Hpfar)
+    ensures { Extends (told_text explained edition esr far hpfar) text.old text.new }
 {
-    let line = shown_line(out, at, edition, esr, far, hpfar);
+    shown_line(text, edition, esr, far, hpfar);
     if explained {
-        return explain_text::trap_said(out, line, edition, esr, far, hpfar);
+        explain_text::trap_said(text, edition, esr, far, hpfar);
     }
-    line
 }
 
 // The lines of an edition that is in a mask.
 fn line_in(
-    out: &mut [u8],
-    at: usize,
+    text: &mut Text<'_>,
     mask: u32,
     explained: bool,
     edition: u32,
     esr: Esr,
     far: Far,
     hpfar: Hpfar,
-) -> usize
-    ensures { Appends (cond (bit_of mask edition) (told_text explained edition esr far hpfar) []) out.old at out.new result }
+)
+    ensures { Extends (cond (bit_of mask edition) (told_text explained edition esr far hpfar) []) text.old text.new }
 {
     if bits::bit(mask as u64, edition) {
-        told_lines(out, at, explained, edition, esr, far, hpfar)
-    } else {
-        at
+        told_lines(text, explained, edition, esr, far, hpfar);
     }
 }
 
 // What each edition of a mask makes of a trap, each once and in ascending order.
-fn lines_in(
-    out: &mut [u8],
-    at: usize,
-    mask: u32,
-    explained: bool,
-    esr: Esr,
-    far: Far,
-    hpfar: Hpfar,
-) -> usize
-    ensures { Appends (lines_below editions mask (λ e. told_text explained e esr far hpfar)) out.old at out.new result }
+fn lines_in(text: &mut Text<'_>, mask: u32, explained: bool, esr: Esr, far: Far, hpfar: Hpfar)
+    ensures { Extends (lines_below editions mask (λ e. told_text explained e esr far hpfar)) text.old text.new }
 {
-    let mut end = at;
-    let mut e: u32 = 0;
-    while e < edition::EDITIONS {
-        end = line_in(out, end, mask, explained, e, esr, far, hpfar);
-        e += 1;
+    for e in 0..edition::EDITIONS {
+        line_in(text, mask, explained, e, esr, far, hpfar);
     }
-    end
 }
 
 // A trap: its registers, and what each edition of a mask makes of it.
-pub fn trap_lines(
-    out: &mut [u8],
-    at: usize,
-    mask: u32,
-    explained: bool,
-    esr: Esr,
-    far: Far,
-    hpfar: Hpfar,
-) -> usize
-    ensures { Appends (trap_text mask explained esr far hpfar) out.old at out.new result }
+pub fn trap_lines(text: &mut Text<'_>, mask: u32, explained: bool, esr: Esr, far: Far, hpfar: Hpfar)
+    ensures { Extends (trap_text mask explained esr far hpfar) text.old text.new }
 {
-    let words = log_text::words_line(out, at, esr, far, hpfar);
-    lines_in(out, words, mask, explained, esr, far, hpfar)
+    log_text::words_line(text, esr, far, hpfar);
+    lines_in(text, mask, explained, esr, far, hpfar);
 }

@@ -8,24 +8,24 @@ use Rattle.text.specs.Lines.{state_after, chunk_text}
 use Rattle.trapread.specs.Answer.{answer_text}
 
 -- a chunk that comes after the first bytes of a line: the line that it leaves unended, and the answers to those that it ends
-abbrev pub line_after : State → List ℕ → State
-line_after = state_after started fed
+abbrev pub line_after : State 18 → List ℕ → State 18
+line_after = state_after (started 18) (fed 18)
 
-abbrev pub answers_in : State → List ℕ → List ℕ
-answers_in = chunk_text started fed (λ s. answer_text (ended s))
+abbrev pub answers_in : State 18 → List ℕ → List ℕ
+answers_in = chunk_text (started 18) (fed 18) (λ s. answer_text (ended s))
 
 -- some chunk was read after the first bytes of a line: it leaves the line `after`, and the text has its answers
-pub record Answered (before after : State) (text : List ℕ) : Type 0 where
+pub record Answered (before after : State 18) (text : List ℕ) : Type 0 where
   pub chunk : List ℕ
   pub line : after ≡ line_after before chunk
   pub answers : text ≡ answers_in before chunk
 
 -- a last line without a newline is answered too, where it is not empty
-abbrev pub last_text : State → List ℕ
+abbrev pub last_text : State 18 → List ℕ
 last_text s = cond (eqb s.count 0) [] (answer_text (ended s))
 
 -- where a read or a write failed, it is not
-abbrev pub end_text : Bool → State → List ℕ
+abbrev pub end_text : Bool → State 18 → List ℕ
 end_text ended s = cond ended (last_text s) []
 
 -- an input's lines without their newlines, after the first bytes of a line: the last may lack its newline, and is none where it is empty

@@ -5,6 +5,7 @@ use mathlib.Core.Bool.{Bool, true, false, true≢false}
 use mathlib.Core.Logic.{◌↔◌, ◌⊎◌, inl, inr, ⊎_elim}
 use Prim.Native.Nat.{ℕ}
 use lib.Dec.{eqb}
+use Rattle.std.specs.Prelude.{Ok}
 use borrow.Author.Tests.{eqb-false, ne_eqb}
 use Rattle.bits.specs.Decide.{FailsWith}
 use Rattle.bits.proofs.Arms.{absurd_answer}
@@ -20,7 +21,6 @@ use Rattle.short_record.specs.declared.kinds.Record.{Record as Short}
 use Rattle.short_rule.specs.Edition.{editions as short_count, mask_of as short_mask}
 use Rattle.short_rule.specs.Has.{has as short_has, editions_of as short_editions}
 use Rattle.status.specs.Mode.{is_mode}
-use Rattle.widen.specs.declared.Widened.{Widened}
 use Rattle.widen.specs.Register.{uses_pc}
 use Rattle.widen.specs.Long.{long_of}
 use Rattle.widen.specs.Widening.{widen_of, widen_list, number_widened}
@@ -41,13 +41,13 @@ module _ (mode : ℕ) (r : Short) where
       (is_mode mode ≡ true) × OneHas short_count (λ e. short_has e r) × (uses_pc r ≡ false)
       × OneHas long_count (λ e. long_has Origin.AArch32 e (long_of mode r))
 
-  given : Allowed → widen_of mode r ≡ Widened.Long (long_of mode r)
+  given : Allowed → widen_of mode r ≡ Ok (long_of mode r)
   unfolding short_mask long_mask
   given ok =
       widen_given mode r ok.0 (not_empty short_count (λ e. short_has e r) ok.1) ok.2
       (not_empty long_count (λ e. long_has Origin.AArch32 e (long_of mode r)) ok.3)
 
-  asked : (l : Long) → widen_of mode r ≡ Widened.Long l → Allowed
+  asked : (l : Long) → widen_of mode r ≡ Ok l → Allowed
   unfolding short_mask long_mask
   asked l t = by (is_mode mode) refl (eqb (short_editions r) 0) refl (uses_pc r) refl (eqb (long_editions Origin.AArch32 (long_of mode r)) 0)
       refl
@@ -62,15 +62,15 @@ module _ (mode : ℕ) (r : Short) where
           (k, some_edition short_count (λ e. short_has e r) hs, hp, some_edition long_count (λ e. long_has Origin.AArch32 e (long_of mode r)) hn)
 
   -- THE CHANGE EXACTLY: a long record comes exactly when all four hold, and it is the one that the short record's fields make
-  pub widened_exactly : (l : Long) → (widen_of mode r ≡ Widened.Long l) ↔ (Allowed × (long_of mode r ≡ l))
+  pub widened_exactly : (l : Long) → (widen_of mode r ≡ Ok l) ↔ (Allowed × (long_of mode r ≡ l))
   widened_exactly l = (
     λ t. let ok = asked l t in
         let made = given ok in (ok, cc (t, made)),
-    λ h. given h.0 ∙ ap Widened.Long h.1,
+    λ h. given h.0 ∙ ap Ok h.1,
   )
 
   -- what it answers, some long edition has
-  pub widened_had : (l : Long) → widen_of mode r ≡ Widened.Long l → OneHas long_count (λ e. long_has Origin.AArch32 e l)
+  pub widened_had : (l : Long) → widen_of mode r ≡ Ok l → OneHas long_count (λ e. long_has Origin.AArch32 e l)
   widened_had l t =
       let h = (widened_exactly l).0 t in
       subst (λ (x : Long). OneHas long_count (λ e. long_has Origin.AArch32 e x)) h.1 h.0.3

@@ -5,14 +5,15 @@ use mathlib.Core.Bool.{Bool, true, false, cond, ◌&&◌}
 use Prim.Native.Nat.{ℕ, ◌≤◌, ◌<◌}
 use lib.Dec.{eqb}
 use borrow.Author.Tests.{le-leb}
+use Rattle.std.specs.Prelude.{Some, None}
+use Rattle.std.specs.Option.{unwrap_or}
 use Rattle.record.specs.Class.{head_of as long_head}
 use Rattle.short_record.specs.Class.{head_of as short_head}
 use Rattle.short_record.specs.declared.kinds.Record.{Record as Short}
-use Rattle.status.specs.declared.Held.{Held}
 use Rattle.status.specs.Mode.{is_mode}
 use Rattle.status.specs.Register.{register_number}
 use Rattle.status.proofs.Registers.{number_below, number_not_pc, number_injective}
-use Rattle.widen.specs.Register.{numbered, mapped, literal, base}
+use Rattle.widen.specs.Register.{mapped, literal, base}
 use Rattle.widen.specs.Long.{long_of}
 use Rattle.widen.specs.Kept.{short_kept, long_kept}
 
@@ -48,7 +49,7 @@ unknown_kept mode am rn l = ap (λ (b : Bool). cond b rn (mapped mode rn)) l
 module _ (mode : ℕ) (accepted : is_mode mode ≡ true) where
   pub mapped_number : (n : ℕ) → n ≤ 14 → mapped mode n ≡ register_number mode n
   mapped_number n h =
-      ap₂ (λ (a b : Bool). numbered n (cond (a && b) (Held.Register (register_number mode n)) Held.Nowhere)) accepted (le-leb n 14 h)
+      ap₂ (λ (a b : Bool). unwrap_or (cond (a && b) (Some (register_number mode n)) None) n) accepted (le-leb n 14 h)
 
   pub mapped_below : (n : ℕ) → n ≤ 14 → mapped mode n < 31
   mapped_below n h = rw (mapped_number n h) (number_below mode accepted n h)

@@ -1,18 +1,14 @@
 -- The registers of a short record (request C-11 of document 02): those of the guest's mode, in the AArch64 numbering by the manual's
 -- mapping.
 use Rattle.std.specs.Prelude.{ℕ, Bool, false, cond, not, ◌&&◌, ◌||◌, eqb}
+use Rattle.std.specs.Option.{unwrap_or}
 use Rattle.bits.specs.Field.{bit_of}
 use Rattle.short_record.specs.declared.kinds.Record.{Record}
-use Rattle.status.specs.declared.Held.{Held}
 use Rattle.status.specs.Register.{held_in}
 
 -- a register's number where it is held; one that is held nowhere stays as found
-abbrev pub numbered : ℕ → Held → ℕ
-numbered n (Held.Register k) = k
-numbered n Held.Nowhere = n
-
 abbrev pub mapped : ℕ → ℕ → ℕ
-mapped mode n = numbered n (held_in mode n)
+mapped mode n = unwrap_or (held_in mode n) n
 
 -- LDC and STC: AM bit 2 marks a literal form, whose Rn is UNKNOWN
 abbrev pub literal : ℕ → Bool

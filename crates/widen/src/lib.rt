@@ -9,11 +9,10 @@ ghost use Rattle.widen.specs.Widening.{Widening};
 
 use record::Origin;
 use short_record::Record;
-use status::Held;
 
-#[derive(Clone, Copy)]
-pub enum Widened {
-    Long(record::Record),
+// Why no long record comes.
+#[derive(Clone, Copy, PartialEq, Eq)]
+pub enum WidenRefusal {
     // 9: no mode that a guest runs in.
     BadMode,
     // 5: no short edition has the record, it names the PC, or no long edition has the result.
@@ -24,10 +23,7 @@ pub enum Widened {
 fn mapped(mode: u32, number: u32) -> u32
     ensures { result ≡ mapped mode number }
 {
-    match status::held_in(mode, number) {
-        Held::Register(n) => n,
-        Held::Nowhere => number,
-    }
+    status::held_in(mode, number).unwrap_or(number)
 }
 
 // Rn of an LDC or STC. In a literal form, AM bit 2, it is UNKNOWN and stays as found.
@@ -69,6 +65,7 @@ fn plain(x: record::Plain) -> record::Plain
     }
 }
 
+// Kept: the conversions below go by the mode, which From can't take; simd and instruction_abort stand beside them.
 fn mcr(mode: u32, x: short_record::Mcr) -> record::Mcr
     ensures { result ≡ long_mcr mode x }
 {
@@ -183,21 +180,22 @@ fn long_record(mode: u32, r: Record) -> record::Record
 }
 
 // Changes a short record to a long one, given the number of the guest's mode. The guest is in AArch32, and stays so.
-pub fn widen(mode: u32, r: Record) -> Widened
+#[tactic(auto, unfolding(crate::specs::Widening::widen_of))]
+pub fn widen(mode: u32, r: Record) -> Result<record::Record, WidenRefusal>
     ensures { Widening mode r result }
 {
     if !status::is_mode(mode) {
-        return Widened::BadMode;
+        return Err(WidenRefusal::BadMode);
     }
     if short_rule::editions(r) == 0 {
-        return Widened::NoEdition;
+        return Err(WidenRefusal::NoEdition);
     }
     if uses_pc(r) {
-        return Widened::NoEdition;
+        return Err(WidenRefusal::NoEdition);
     }
     let long = long_record(mode, r);
     if rule::editions(Origin::AArch32, long) == 0 {
-        return Widened::NoEdition;
+        return Err(WidenRefusal::NoEdition);
     }
-    Widened::Long(long)
+    Ok(long)
 }

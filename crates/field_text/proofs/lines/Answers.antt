@@ -1,4 +1,4 @@
-use Rattle.text.proofs.Appending.{appends_none}
+use Rattle.text.proofs.Appending.{extends_none}
 use Rattle.field_text.specs.Rows.{shape_rows}
 use Rattle.field_text.proofs.Steps.{none_said}
 use Rattle.field_text.proofs.Shapes.{shape_within}
@@ -14,5 +14,5 @@ returns-then-shape-lt-SHAPES c =
     let count = own in
     rw (count.first.ensures, count.count.ensures) at own.rows_lines.ensures
 
-pub returns : goal.returns
-returns c = rw (none_said _ _ c.if-shape-lt-SHAPES.false) (appends_none _ _)
+pub returns-else-shape-lt-SHAPES : goal.returns-else-shape-lt-SHAPES
+returns-else-shape-lt-SHAPES c = rw (none_said _ _ c.if-shape-lt-SHAPES.false) (extends_none _)

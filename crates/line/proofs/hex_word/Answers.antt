@@ -10,13 +10,13 @@ use lib.Dec.{lit<}
 use lib.ListN.{length, drop, get_or}
 use lib.Seq.{drop-cons, drop-length}
 use Rattle.text.specs.Digit.{hex_digit}
-use Rattle.text.specs.declared.Digit.{Digit}
+use Rattle.std.specs.Prelude.{Option, Some, None}
 use Rattle.text.proofs.Digits.{hex_below}
 use Rattle.line.specs.Line.{on_digit, word_from, word_of}
 use Rattle.line.proofs.hex_word.Goals as goal
 
 -- the next digit goes on from the value so far, or ends the word
-next : (digits : List ℕ) (value i : ℕ) {d : Digit} → i < length digits → hex_digit (get_or digits i 0) ≡ d
+next : (digits : List ℕ) (value i : ℕ) {d : Option ℕ} → i < length digits → hex_digit (get_or digits i 0) ≡ d
     → word_from value (drop i digits) ≡ on_digit d (λ x. word_from (value * 16 + x) (drop (suc i) digits))
 next digits value i more e = rw (drop-cons digits i 0) (ap (λ d. on_digit d (λ x. word_from (value * 16 + x) (drop (suc i) digits))) e)
 
@@ -30,29 +30,29 @@ longer : (value i d : ℕ) → value < 16 ^ i → d < 16 → value * 16 + d < 16
 longer value i d small digit = rw (add-one, pow-suc) (omega arith)
 
 -- in the turn: the digits, the digit that was read, and what is known of it
-abbrev read : goal.In-Value → List ℕ
+abbrev read : goal.In_ok-digit → List ℕ
 read c = c.args.digits.now
 
-told : (c : goal.In-Value)
-    → hex_digit (get_or (read c) c.loop-i.i 0) ≡ Digit.Value c.in-Value.digit
-told c = sym c.hex_digit.ensures ∙ c.in-Value.is
+told : (c : goal.In_ok-digit) → hex_digit (get_or (read c) c.loop-byte.byte-index 0) ≡ Some c.in_ok-digit.digit
+told c = sym c.hex_digit.ensures ∙ c.in_ok-digit.was
 
-small : (c : goal.In-Value) → c.in-Value.digit < 16
-small c = hex_below (get_or (read c) c.loop-i.i 0) (told c)
+small : (c : goal.In_ok-digit) → c.in_ok-digit.digit < 16
+small c = hex_below (get_or (read c) c.loop-byte.byte-index 0) (told c)
 
-fits : (c : goal.In-Value) → c.loop-i.value * 16 + c.in-Value.digit < 2 ^ 64
-fits c = room c.loop-i.value c.loop-i.i c.in-Value.digit c.loop-i.invariant.1 (omega arith) (small c)
+fits : (c : goal.In_ok-digit) → c.loop-byte.value * 16 + c.in_ok-digit.digit < 2 ^ 64
+fits c =
+    room c.loop-byte.value c.loop-byte.byte-index c.in_ok-digit.digit c.loop-byte.invariant.0 (omega arith) (small c)
 
-pub loop-i-init : goal.loop-i-init
-loop-i-init c = (omega arith, omega arith, refl)
+pub loop-byte-init : goal.loop-byte-init
+loop-byte-init c = (omega arith, refl)
 
-pub returns-in_default : goal.returns-in_default
+pub returns-in_err-digit : goal.returns-in_err-digit
 unfolding word_of
-returns-in_default c =
-    let l = c.loop-i in
+returns-in_err-digit c =
+    let l = c.loop-byte in
     let digits = c.args.digits.now in
-    let none : hex_digit (get_or digits l.i 0) ≡ Digit.None = sym c.hex_digit.ensures ∙ c.in_default.is in
-    sym (sym l.invariant.2 ∙ next digits l.value l.i (omega arith) none)
+    let none : hex_digit (get_or digits l.byte-index 0) ≡ None = sym c.hex_digit.ensures ∙ c.in_err-digit.was in
+    c.from_residual.ensures ∙ sym (sym l.invariant.1 ∙ next digits l.value l.byte-index (omega arith) none)
 
 pub overflow_mul-value : goal.overflow_mul-value
 overflow_mul-value c = omega (arith, fits c)
@@ -60,17 +60,16 @@ overflow_mul-value c = omega (arith, fits c)
 pub overflow_add-value : goal.overflow_add-value
 overflow_add-value c = omega (arith, fits c)
 
-pub loop-i-preserved : goal.loop-i-preserved
-loop-i-preserved c =
-    let l = c.loop-i in
-    let d = c.in-Value.digit in (
-      omega arith,
-      longer l.value l.i d l.invariant.1 (small c),
-      rw add-one (sym (next (read c) l.value l.i (omega arith) (told c)) ∙ l.invariant.2),
+pub loop-byte-preserved : goal.loop-byte-preserved
+loop-byte-preserved c =
+    let l = c.loop-byte in
+    let d = c.in_ok-digit.digit in (
+      longer l.value l.byte-index d l.invariant.0 (small c),
+      rw add-one (sym (next (read c) l.value l.byte-index (omega arith) (told c)) ∙ l.invariant.1),
     )
 
 pub returns : goal.returns
 unfolding word_of
 returns c =
-    let past : length c.args.digits.now ≡ c.loop-i.i = omega arith in
-    rw (← past, drop-length) at c.loop-i.invariant.2
+    let past : length c.args.digits.now ≡ c.loop-byte.byte-index = omega arith in
+    rw (← past, drop-length) at c.loop-byte.invariant.1

@@ -8,15 +8,15 @@ use Rattle.log_cut.proofs.cut_in.Goals as goal
 pub overflow_sub-behind : goal.overflow_sub-behind
 overflow_sub-behind c =
     let matched = c in
-    omega (arith, count_whole matched.args.rest.now (sym matched.front.ensures ∙ c.in-Whole.is))
+    omega (arith, count_whole matched.args.rest.now (sym matched.front.ensures ∙ c.in-Some.is))
 
-pub returns-in-Whole : goal.returns-in-Whole
-returns-in-Whole c =
+pub returns-in-Some : goal.returns-in-Some
+returns-in-Some c =
     let found = c in
     let matched = found in
     let a = matched.args in
-    let known = count_whole a.rest.now (sym matched.front.ensures ∙ found.in-Whole.is) in
-    rw (c.smaller-whole.ensures, known.1) (cut_behind a.size a.rest.now known.0)
+    let known = count_whole a.rest.now (sym matched.front.ensures ∙ found.in-Some.is) in
+    rw (c.min-whole.ensures, known.1) (cut_behind a.size a.rest.now known.0)
 
 pub returns-in-None : goal.returns-in-None
 returns-in-None c =

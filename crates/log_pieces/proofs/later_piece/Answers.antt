@@ -3,7 +3,7 @@
 use Prim.Native.Nat.{◌<◌}
 use native.Mathlib.Omega.{arith}
 use Rattle.log_cut.specs.Whole.{count_in}
-use Rattle.text.proofs.Appending.{appends_none}
+use Rattle.text.proofs.Appending.{extends_none}
 use Rattle.log_pieces.specs.Text.{shown}
 use Rattle.log_pieces.proofs.Placed.{edition_piece, trap_piece_lem, injection_piece_lem, last_piece, no_piece, same_text}
 use Rattle.log_pieces.proofs.later_piece.Goals as goal
@@ -49,8 +49,8 @@ returns-then-k-injections-2 c =
     first.if-i-editions.false third.count-injections.ensures second.if-j-traps.false fourth.if-k-injections-2.true)
     c.last_line.ensures
 
-pub returns : goal.returns
-returns c =
+pub returns-else-k-injections-2 : goal.returns-else-k-injections-2
+returns-else-k-injections-2 c =
     let third = c in
     let second = third in
     let first = second in
@@ -58,4 +58,4 @@ returns c =
     same_text
     (no_piece a.seen a.explained a.log.now first.count-editions.ensures second.count-traps.ensures a.i
     first.if-i-editions.false third.count-injections.ensures second.if-j-traps.false (omega (arith, third.if-k-injections.false, c.if-k-injections-2.false)))
-    (appends_none _ _)
+    (extends_none _)

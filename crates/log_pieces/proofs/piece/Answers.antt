@@ -15,8 +15,8 @@ returns-then-i-eq0 c =
     (ap first_text read.read_in.ensures.answer ∙ first_piece a.seen a.explained a.log.now a.i test.if-i-eq0.true)
     first.first_lines.ensures
 
-pub returns : goal.returns
-returns c =
+pub returns-else-i-eq0 : goal.returns-else-i-eq0
+returns-else-i-eq0 c =
     let test = c in
     let a = test.args in
     same_text (later_piece a.seen a.explained a.log.now a.i test.if-i-eq0.false) c.later_piece.ensures

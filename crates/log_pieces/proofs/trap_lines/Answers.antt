@@ -3,6 +3,7 @@
 use mathlib.Core.Path.{ap, ◌∙◌}
 use Prim.Native.Nat.{◌≤◌, ◌<◌}
 use lib.ListN.{length}
+use Rattle.std.specs.Prelude.{Some}
 use Rattle.log_text.specs.Cut.{syndrome_text}
 use Rattle.log_pieces.specs.Text.{shown}
 use Rattle.log_pieces.proofs.Shown.{same_syndrome, same_address}
@@ -11,33 +12,21 @@ use Rattle.log_pieces.proofs.trap_lines.Goals as goal
 
 pub returns-then-count-i : goal.returns-then-count-i
 returns-then-count-i c =
-    let line = c in
-    let counted = line in
-    let found = counted in
-    let entry = found in
-    let start = entry in
-    let a = start.args in
+    let a = c.args in
     let s = a.log.now in
-    let esr = same_syndrome found.in-Syndrome.is entry.entry-syndrome.ensures in
-    let without : length (shown s).addresses ≤ a.i = rw counted.count.ensures at counted.if-count-i.true in
+    let esr = same_syndrome (c.in-Some-Syndrome.is ∙ ap Some c.in-Some-Syndrome.field-0-is) c.entry.ensures in
+    let without : length (shown s).addresses ≤ a.i = rw c.count.ensures at c.if-count-i.true in
     same_text
     (ap syndrome_text esr
-    ∙ without_address a.seen a.explained (shown s).syndromes (shown s).addresses a.i start.requires without)
-    line.syndrome_line.ensures
+    ∙ without_address a.seen a.explained (shown s).syndromes (shown s).addresses a.i c.requires without)
+    c.syndrome_line.ensures
 
-pub returns-in-Address : goal.returns-in-Address
-returns-in-Address c =
-    let called = c in
-    let second = called in
-    let address = second in
-    let counted = address in
-    let first = counted in
-    let entry = first in
-    let start = entry in
-    let a = start.args in
+pub returns : goal.returns
+returns c =
+    let a = c.args in
     let s = a.log.now in
-    let esr = same_syndrome first.in-Syndrome.is entry.entry-syndrome.ensures in
-    let registers = same_address second.in-Address.is address.entry-address.ensures in
-    let with : a.i < length (shown s).addresses = rw counted.count.ensures at counted.if-count-i.false in
-    same_text (with_address a.seen a.explained (shown s).syndromes (shown s).addresses a.i start.requires with)
-    (rw (esr, registers.0, registers.1) at called.trap_lines.ensures)
+    let esr = same_syndrome (c.in-Some-Syndrome.is ∙ ap Some c.in-Some-Syndrome.field-0-is) c.entry.ensures in
+    let registers = same_address (c.in-Some-Address.is ∙ ap Some c.in-Some-Address.field-0-is) c.entry-2.ensures in
+    let with : a.i < length (shown s).addresses = rw c.count.ensures at c.if-count-i.false in
+    same_text (with_address a.seen a.explained (shown s).syndromes (shown s).addresses a.i c.requires with)
+    (rw (esr, registers.0, registers.1) at c.trap_lines.ensures)

@@ -1,6 +1,6 @@
 -- `log_text::edition_line` meets its contract: one text after another.
 -- Assumes nothing.
-use Rattle.text.proofs.Appending.{appends_both}
+use Rattle.text.proofs.Appending.{extends_both}
 use Rattle.log_text.proofs.edition_line.Goals as goal
 
 pub returns : goal.returns
@@ -8,4 +8,4 @@ returns c =
     let last = c in
     let number = last in
     let word = number in
-    appends_both (appends_both word.append-word.ensures number.edition_field-number.ensures) last.append.ensures
+    extends_both (extends_both word.append.ensures number.edition_field.ensures) last.append-2.ensures

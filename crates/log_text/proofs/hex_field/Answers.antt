@@ -1,7 +1,7 @@
 -- `log_text::hex_field` meets its contract: one text after another.
 -- Assumes nothing.
-use Rattle.text.proofs.Appending.{appends_both}
+use Rattle.text.proofs.Appending.{extends_both}
 use Rattle.log_text.proofs.hex_field.Goals as goal
 
 pub returns : goal.returns
-returns c = appends_both c.append-space.ensures c.append_hex.ensures
+returns c = extends_both c.append.ensures c.append_hex.ensures

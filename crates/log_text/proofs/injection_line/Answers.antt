@@ -1,6 +1,6 @@
 -- `log_text::injection_line` meets its contract: one text after another.
 -- Assumes nothing.
-use Rattle.text.proofs.Appending.{appends_both}
+use Rattle.text.proofs.Appending.{extends_both}
 use Rattle.log_text.proofs.Room.{injections_at}
 use Rattle.log_text.proofs.injection_line.Goals as goal
 
@@ -12,9 +12,9 @@ returns c =
     let third = fourth in
     let second = third in
     let first = second in
-    appends_both
-    (appends_both
-    (appends_both (appends_both (appends_both first.append-first.ensures second.decimal_field-second.ensures) third.append-third.ensures)
-    fourth.decimal_field-fourth.ensures)
-    (rw injections_at at name.meaning-name.ensures))
-    last.append.ensures
+    extends_both
+    (extends_both
+    (extends_both (extends_both (extends_both first.append.ensures second.decimal_field.ensures) third.append-2.ensures)
+    fourth.decimal_field-2.ensures)
+    (rw injections_at at name.meaning.ensures))
+    last.append-3.ensures

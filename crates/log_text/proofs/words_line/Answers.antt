@@ -1,11 +1,11 @@
 -- `log_text::words_line` meets its contract: one text after another.
 -- Assumes nothing.
-use Rattle.text.proofs.Appending.{appends_both}
+use Rattle.text.proofs.Appending.{extends_both}
 use Rattle.log_text.proofs.words_line.Goals as goal
 
 pub returns : goal.returns
 returns c =
-    appends_both (appends_both (appends_both (appends_both
-    c.append-word.ensures c.hex_field-first.ensures)
-    c.hex_field-second.ensures)
-    c.hex_field-third.ensures) c.append.ensures
+    extends_both (extends_both (extends_both (extends_both
+    c.append.ensures c.hex_field.ensures)
+    c.hex_field-2.ensures)
+    c.hex_field-3.ensures) c.append-2.ensures

@@ -5,7 +5,8 @@ use Rattle.record.specs.declared.kinds.Record.{Record}
 use Rattle.exception.specs.declared.state.Guest.{Guest}
 use Rattle.device.specs.Answer.{access_number}
 use Rattle.device.specs.Finish.{finished}
-use Rattle.device.specs.declared.access.Finished.{Finished}
+use Rattle.device.specs.declared.answer.Moved.{Moved}
+use Rattle.step.specs.declared.over.Onward.{Onward}
 use Rattle.state_words.specs.Words.{words_of}
 use Rattle.onward_calls.specs.Calls.{stored_in}
 use Rattle.onward_calls.proofs.knucklepin_finish.Goals as goal
@@ -20,8 +21,8 @@ returns c =
     c.record_of.ensures in
     record {
       lent = record {
-        answer = c.number.ensures ∙ ap (λ (x : Finished). access_number x.answer) same;
-        words = c.words_of.ensures ∙ ap (λ (x : Finished). words_of w x.state) same;
+        answer = c.number.ensures ∙ ap (λ (x : Onward Moved). access_number x.answer) same;
+        words = c.words_of.ensures ∙ ap (λ (x : Onward Moved). words_of w x.state) same;
       };
-      given = c.stored_in.ensures ∙ ap (λ (x : Finished). stored_in x.answer) same;
+      given = c.stored_in.ensures ∙ ap (λ (x : Onward Moved). stored_in x.answer) same;
     }

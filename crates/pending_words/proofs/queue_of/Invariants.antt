@@ -6,8 +6,5 @@ use Rattle.pending.specs.Reading.{list_of}
 use Rattle.pending_words.specs.Number.{waiting_from, waiting_in}
 use Rattle.pending_words.proofs.queue_of.Given as goal
 
-abbrev pub invariant-loop-pairs : goal.invariant-loop-pairs
-invariant-loop-pairs l = waiting_from l.pairs l.left (list_of l.queue) ≡ waiting_in l.number
-
-abbrev pub decreases-loop-pairs : goal.decreases-loop-pairs
-decreases-loop-pairs l = l.pairs
+abbrev pub invariant-loop-pair : goal.invariant-loop-pair
+invariant-loop-pair l = waiting_from (16 - l._pair) l.left (list_of l.queue) ≡ waiting_in l.number

@@ -3,6 +3,4 @@ use Rattle.record_text.proofs.word_lines.Goals as goal
 
 pub returns : goal.returns
 unfolding word_text
-returns c =
-    let lines = c in
-    rw lines.field32-class.ensures at lines.lines.ensures
+returns c = rw c.field32-class.ensures at c.lines.ensures

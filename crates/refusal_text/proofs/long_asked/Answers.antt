@@ -1,4 +1,4 @@
-use Rattle.text.proofs.Appending.{appends_none}
+use Rattle.text.proofs.Appending.{extends_none}
 use Rattle.refusal_text.proofs.Asked.{none_asked}
 use Rattle.refusal_text.proofs.long_asked.Goals as goal
 
@@ -20,4 +20,4 @@ returns-in-43690 c = rw c.in-43690.is c.append-in-43690.ensures
 pub returns-in_default : goal.returns-in_default
 returns-in_default c =
     let n = c.in_default.in_default-own.rest in
-    rw (none_asked _ n.0.0.0.0.1 n.0.0.0.1 n.0.0.1 n.0.1 n.1) (appends_none _ _)
+    rw (none_asked _ n.0.0.0.0.1 n.0.0.0.1 n.0.0.1 n.0.1 n.1) (extends_none _)

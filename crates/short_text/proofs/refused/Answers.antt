@@ -1,6 +1,6 @@
-use Rattle.text.proofs.Appending.{appends_both}
+use Rattle.text.proofs.Appending.{extends_both}
 use Rattle.short_text.proofs.refused.Goals as goal
 
 pub returns : goal.returns
 returns c =
-    appends_both c.refusal_lines-why.ensures c.others.ensures
+    extends_both c.refusal_lines.ensures c.others.ensures

@@ -58,7 +58,4 @@ module _ (marks : Marks) (m : Mode) (set_a set-f : Bool) (old sctlr : ℕ) where
 
 pub returns : goal.returns
 returns c =
-    let start = c.before.before.before.before.before in
-    joined start.args.marks _ _ _ _ _ c.before.before.before.before.entry_ssbs.ensures
-    c.before.before.before.entry_pan.ensures
-    c.before.before.entry_a.ensures c.before.entry_f.ensures c.mode_number.ensures
+    joined c.args.marks _ _ _ _ _ c.entry_ssbs.ensures c.entry_pan.ensures c.set_or_kept.ensures c.set_or_kept-2.ensures c.mode_number.ensures

@@ -3,11 +3,13 @@
 use mathlib.Core.Path.{◌≡◌, ◌∙◌, sym, ap, ap₂}
 use mathlib.Core.Bool.{Bool, true, ◌&&◌}
 use Prim.Native.Nat.{ℕ}
-use borrow.Author.Tests.{not-true, not-false}
+use borrow.Author.Tests.{not-false}
+use Rattle.std.proofs.lemmas.Result.{err_from_is_err_and}
+use Rattle.std.specs.Prelude.{Result, Ok}
 use Rattle.bits.specs.Inner.{joined_from}
 use Rattle.edition.specs.Feature.{is_edition}
 use Rattle.edition.specs.Judge.{judge_of}
-use Rattle.edition.specs.declared.Verdict.{Verdict}
+use Rattle.edition.specs.declared.Refusal.{Refusal}
 use Rattle.record.specs.Class.{is_class, head_of}
 use Rattle.layout.specs.Fields.{fields_of, record_word}
 use Rattle.record.specs.declared.origin.Origin.{Origin}
@@ -17,8 +19,7 @@ use Rattle.rule.specs.Il.{il_rule}
 use Rattle.rule.specs.Has.{record_class, record_il, allowed_of}
 use Rattle.rule.proofs.Heads.{allowed_had}
 use Rattle.syndrome.specs.Writing.{write_of}
-use Rattle.syndrome.specs.declared.answer.Written.{Written}
-use Rattle.syndrome.proofs.Steps.{write_verdict, write_unknown, write_class, write_short, write_judged, joined_taken}
+use Rattle.syndrome.proofs.Steps.{write_verdict, write_judged, joined_taken}
 use Rattle.syndrome.proofs.Promises.{writes}
 use Rattle.syndrome.proofs.write.Goals as goal
 
@@ -34,46 +35,22 @@ own-il o r same l b = sym (l ∙ ap (λ (x : Head). il_rule o x.class x.isv x.il
 
 module _ (o : Origin) (e : ℕ) (r : Record) (k : is_edition e ≡ true) (w : record_class o r ≡ true) (l : record_il o r ≡ true) where
   -- what the code makes of a verdict that it came to
-  judged : {m : ℕ} {came verdict : Verdict} → m ≡ allowed_of o r → came ≡ judge_of e m → came ≡ verdict
+  judged : {m : ℕ} {came verdict : Result Unit Refusal} → m ≡ allowed_of o r → came ≡ judge_of e m → came ≡ verdict
       → write_verdict (record_word r) verdict ≡ write_of o e r
   judged mask judge same =
       sym (write_judged o e r k w l
       ∙ ap (write_verdict (record_word r)) (ap (judge_of e) (sym (mask ∙ allowed_had o r w l)) ∙ sym judge ∙ same))
 
-  joined : {w m : ℕ} {came : Verdict} → w ≡ joined_from 0 (fields_of r) → m ≡ allowed_of o r → came ≡ judge_of e m → came ≡ Verdict.Taken
-      → Written.Word (record { 0 = w }) ≡ write_of o e r
+  joined : {w m : ℕ} {came : Result Unit Refusal} → w ≡ joined_from 0 (fields_of r) → m ≡ allowed_of o r → came ≡ judge_of e m
+      → came ≡ Ok (tt {0})
+      → Ok (record { 0 = w }) ≡ write_of o e r
   joined made mask judge same =
-      ap (λ (w : ℕ). Written.Word (record { 0 = w })) (made ∙ joined_taken o e r k (ap (judge_of e) (sym (mask ∙ allowed_had o r w l)) ∙ sym judge ∙ same))
+      ap (λ (w : ℕ). Ok (record { 0 = w }))
+      (made ∙ joined_taken o e r k (ap (judge_of e) (sym (mask ∙ allowed_had o r w l)) ∙ sym judge ∙ same))
       ∙ judged mask judge same
 
-pub returns-then-not-known : goal.returns-then-not-known
-returns-then-not-known c =
-    let a = c.args in
-    writes a.origin a.edition a.r (sym (write_unknown a.origin a.edition a.r
-    (sym c.known.ensures ∙ not-true _ c.if-not-known.true-raw)))
-
-pub returns-then-not-h-is_class : goal.returns-then-not-h-is_class
-returns-then-not-h-is_class c =
-    let known = c in
-    let head = known in
-    let a = head.args in
-    writes a.origin a.edition a.r
-    (sym (write_class a.origin a.edition a.r (sym known.known.ensures ∙ not-false _ known.if-not-known.false-raw)
-    (own-class a.origin a.r head.head-h.ensures c.is_class.ensures (not-true _ c.if-not-h-is_class.true-raw))))
-
-pub returns-then-not-il_rule : goal.returns-then-not-il_rule
-returns-then-not-il_rule c =
-    let own = c in
-    let known = own in
-    let head = known in
-    let a = head.args in
-    writes a.origin a.edition a.r
-    (sym (write_short a.origin a.edition a.r (sym known.known.ensures ∙ not-false _ known.if-not-known.false-raw)
-    (own-class a.origin a.r head.head-h.ensures own.is_class.ensures (not-false _ own.if-not-h-is_class.false-raw))
-    (own-il a.origin a.r head.head-h.ensures c.il_rule.ensures (not-true _ c.if-not-il_rule.true-raw))))
-
-pub returns-in-Taken : goal.returns-in-Taken
-returns-in-Taken c =
+pub returns : goal.returns
+returns c =
     let at = c in
     let long = at in
     let own = long in
@@ -85,19 +62,21 @@ returns-in-Taken c =
     (own-class a.origin a.r head.head-h.ensures own.is_class.ensures (not-false _ own.if-not-h-is_class.false-raw))
     (own-il a.origin a.r head.head-h.ensures long.il_rule.ensures (not-false _ long.if-not-il_rule.false-raw)) c.joined.ensures
     at.allowed.ensures
-    at.judge.ensures c.in-Taken.is)
+    at.judge.ensures c.in_ok-judge.was)
 
-pub returns-in-Refused : goal.returns-in-Refused
-returns-in-Refused c =
+pub returns-in_err-judge : goal.returns-in_err-judge
+returns-in_err-judge c =
+    let p = err_from_is_err_and c.from_residual.result c.from_residual.ensures.1 in
     let at = c in
     let long = at in
     let own = long in
     let known = own in
     let head = known in
     let a = head.args in
-    writes a.origin a.edition a.r
+    rw (p.1, p.2)
+    (writes a.origin a.edition a.r
     (judged a.origin a.edition a.r (sym known.known.ensures ∙ not-false _ known.if-not-known.false-raw)
     (own-class a.origin a.r head.head-h.ensures own.is_class.ensures (not-false _ own.if-not-h-is_class.false-raw))
     (own-il a.origin a.r head.head-h.ensures long.il_rule.ensures (not-false _ long.if-not-il_rule.false-raw))
     at.allowed.ensures at.judge.ensures
-    c.in-Refused.is)
+    c.in_err-judge.was))

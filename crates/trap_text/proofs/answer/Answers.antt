@@ -4,8 +4,8 @@ use mathlib.Core.Path.{ap}
 use Rattle.trap_text.specs.Shown.{answer_text}
 use Rattle.trap_text.proofs.answer.Goals as goal
 
-pub returns-in-Shown : goal.returns-in-Shown
-returns-in-Shown c = rw (ap answer_text c.in-Shown.is) c.addresses.ensures
+pub returns-in-Ok : goal.returns-in-Ok
+returns-in-Ok c = rw (ap answer_text c.in-Ok.is) c.addresses.ensures
 
-pub returns-in-Refused : goal.returns-in-Refused
-returns-in-Refused c = rw (ap answer_text c.in-Refused.is) c.refusal.ensures
+pub returns-in-Err : goal.returns-in-Err
+returns-in-Err c = rw (ap answer_text c.in-Err.is) c.refusal.ensures

@@ -1,19 +1,15 @@
 -- `trapread::answers` meets its contract. The invariant is what `Reading` says of a chunk that has been read up to a byte.
 -- Assumes nothing.
 use mathlib.Core.List.{List}
-use Prim.Native.Nat.{ℕ, ◌-◌}
-use lib.ListN.{length}
+use Prim.Native.Nat.{ℕ}
 use Rattle.text.proofs.Chunks.{Reading}
 use Rattle.line.specs.Feed.{started, fed, ended}
 use Rattle.line.specs.declared.State.{State}
 use Rattle.trapread.specs.Answer.{answer_text}
 use Rattle.trapread.proofs.answers.Given as goal
 
-abbrev answer_to : State → List ℕ
+abbrev answer_to : State 18 → List ℕ
 answer_to s = answer_text (ended s)
 
-abbrev pub invariant-loop-i : goal.invariant-loop-i
-invariant-loop-i l = Reading started fed answer_to l.chunk l.initial.line l.initial.out l.line l.out l.end l.i
-
-abbrev pub decreases-loop-i : goal.decreases-loop-i
-decreases-loop-i l = length l.chunk - l.i
+abbrev pub invariant-loop-byte : goal.invariant-loop-byte
+invariant-loop-byte l = Reading (started 18) (fed 18) answer_to l.chunk l.initial.line l.initial.text l.line l.text l.byte-index

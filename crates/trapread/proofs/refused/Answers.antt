@@ -1,15 +1,10 @@
-use Rattle.text.proofs.Appending.{appends_both}
+use Rattle.text.proofs.Appending.{extends_both}
 use Rattle.trapread.proofs.refused.Goals as goal
 
 pub returns : goal.returns
 returns c =
-    let third = c in
-    let second = third in
-    let first = second in
-    let word = first in
-    appends_both
-    (appends_both
-    (appends_both (appends_both word.append-word.ensures (rw first.number.ensures at first.field-number.ensures))
-    (rw second.mask.ensures at second.field-mask.ensures))
-    (rw third.count.ensures at third.field-count.ensures))
-    c.append.ensures
+    extends_both
+    (extends_both
+    (extends_both (extends_both c.append.ensures (rw c.number.ensures at c.field.ensures)) (rw c.mask.ensures at c.field-2.ensures))
+    (rw c.count.ensures at c.field-3.ensures))
+    c.append-2.ensures

@@ -15,17 +15,18 @@ returns-then-t32 c =
     thumb a.state a.word (sym c.sound.ensures ∙ c.if-not-sound.false)
     (sym c.t32.ensures ∙ c.if-t32.true)
 
-pub returns-in-Taken : goal.returns-in-Taken
-returns-in-Taken c =
-    let a = c.args in
-    taken a.state a.word (sym c.sound.ensures ∙ c.if-not-sound.false)
-    (sym c.t32.ensures ∙ c.if-t32.false) c.decode.ensures.answer c.in-Taken.is c.field32.ensures
-    c.access_in-a.ensures
-    c.registers_of-numbers.ensures
-
-pub returns-in-Refused : goal.returns-in-Refused
-returns-in-Refused c =
+pub returns-in_default : goal.returns-in_default
+returns-in_default c =
     let a = c.args in
     unformed a.state a.word (sym c.sound.ensures ∙ c.if-not-sound.false)
     (sym c.t32.ensures ∙ c.if-t32.false)
-    c.decode.ensures.answer c.in-Refused.is
+    c.decode.ensures.answer c.in_default.is
+
+pub returns : goal.returns
+returns c =
+    let a = c.args in
+    taken a.state a.word (sym c.sound.ensures ∙ c.if-not-sound.false)
+    (sym c.t32.ensures ∙ c.if-t32.false) c.decode.ensures.answer c.in-Some.is
+    c.bank_of.ensures.regs c.bank_of.ensures.pc c.bank_of.ensures.mode
+    c.access_in.ensures
+    c.registers_of-numbers.ensures

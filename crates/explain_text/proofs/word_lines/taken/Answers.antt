@@ -1,6 +1,6 @@
-use Rattle.text.proofs.Appending.{appends_both}
+use Rattle.text.proofs.Appending.{extends_both}
 use Rattle.explain_text.proofs.word_lines.taken.Goals as goal
 
 pub returns : goal.returns
 returns c =
-    appends_both c.append-word.ensures c.word_lines.ensures
+    extends_both c.append.ensures c.word_lines.ensures

@@ -5,15 +5,15 @@ use Rattle.field_text.proofs.shape.list_in.Goals as goal
 
 pub holds-requires : goal.holds-requires
 unfolding row_tests
-holds-requires c = rw c.wide.ensures (test_known c.args.i)
+holds-requires c = rw c.from.ensures (test_known c.args.i)
 
 pub returns-then-holds : goal.returns-then-holds
 unfolding values_in row_tests row_lists
-returns-then-holds c = rw (c.wide-then-holds.ensures, ← c.wide.ensures, ← c.holds.ensures, c.if-holds.true)
+returns-then-holds c = rw (c.from-then-holds.ensures, ← c.from.ensures, ← c.holds.ensures, c.if-holds.true)
 
 pub holds-requires-2 : goal.holds-requires-2
 unfolding row_other_tests
-holds-requires-2 c = rw c.wide-2.ensures (other_known c.args.i)
+holds-requires-2 c = rw c.from-2.ensures (other_known c.args.i)
 
 pub returns-then-holds-2 : goal.returns-then-holds-2
 unfolding values_in row_tests row_other_tests row_other_lists
@@ -21,11 +21,11 @@ returns-then-holds-2 c =
     let second = c in
     let first = second in
     rw (
-      c.wide-then-holds-2.ensures,
-      ← first.wide.ensures,
+      c.from-then-holds-2.ensures,
+      ← first.from.ensures,
       ← first.holds.ensures,
       second.if-holds.false,
-      ← second.wide-2.ensures,
+      ← second.from-2.ensures,
       ← second.holds-2.ensures,
       c.if-holds-2.true,
     )
@@ -36,10 +36,10 @@ returns c =
     let second = c in
     let first = second in
     rw (
-      ← first.wide.ensures,
+      ← first.from.ensures,
       ← first.holds.ensures,
       second.if-holds.false,
-      ← second.wide-2.ensures,
+      ← second.from-2.ensures,
       ← second.holds-2.ensures,
       c.if-holds-2.false,
     )

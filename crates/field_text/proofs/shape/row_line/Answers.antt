@@ -3,9 +3,4 @@ use Rattle.field_text.proofs.shape.row_line.Goals as goal
 
 pub returns : goal.returns
 unfolding row_in row_labels row_highs row_lows
-returns c =
-    let line = c in
-    let list = line in
-    let third = list in
-    let second = third in
-    rw (second.wide-high.ensures, second.wide-low.ensures, third.wide-label.ensures, list.list_in-list.ensures) at line.field_line.ensures
+returns c = rw (c.from-high.ensures, c.from-low.ensures, c.from-label.ensures, c.list_in-list.ensures) at c.field_line.ensures

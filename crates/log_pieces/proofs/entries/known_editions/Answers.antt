@@ -14,24 +14,23 @@ pub overflow_add-mask : goal.overflow_add-mask
 overflow_add-mask c =
     let l = c.loop-e in
     let test = among (shown c.args.log.now).editions in
-    omega (arith, l.invariant.1, l.invariant.2, mask_within test l.e c.loop-e-test.true)
+    omega (arith, l.invariant.0, l.invariant.1, mask_within test l.e c.loop-e-test.true)
 
 pub overflow_mul-bit : goal.overflow_mul-bit
 overflow_mul-bit c =
     let l = c.loop-e in
     let test = among (shown c.args.log.now).editions in
-    omega (arith, l.invariant.1, power_within test l.e c.loop-e-test.true)
+    omega (arith, l.invariant.0, power_within test l.e c.loop-e-test.true)
 
 pub loop-e-preserved : goal.loop-e-preserved
 loop-e-preserved c =
     let l = c.loop-e in
     let test = among (shown c.args.log.now).editions in
     let yes_or_no = sym c.seen.ensures in (
-      omega arith,
-      ap (λ (b : ℕ). b * 2) l.invariant.1 ∙ power_more test l.e,
+      ap (λ (b : ℕ). b * 2) l.invariant.0 ∙ power_more test l.e,
       elim c.if-seen.branch [
-        | then-seen w ↦ w.mask-is ∙ ap₂ ◌+◌ l.invariant.2 l.invariant.1 ∙ mask_more test l.e (yes_or_no ∙ w.if-seen.true)
-        | else-seen w ↦ w.mask-is ∙ l.invariant.2 ∙ mask_same_on test l.e (yes_or_no ∙ w.if-seen.false)
+        | then-seen w ↦ w.mask-is ∙ ap₂ ◌+◌ l.invariant.1 l.invariant.0 ∙ mask_more test l.e (yes_or_no ∙ w.if-seen.true)
+        | else-seen w ↦ w.mask-is ∙ l.invariant.1 ∙ mask_same_on test l.e (yes_or_no ∙ w.if-seen.false)
       ],
     )
 
@@ -40,4 +39,4 @@ unfolding mask_of
 returns c =
     let l = c.loop-e in
     let all : l.e ≡ 16 = omega arith in
-    rw all at l.invariant.2
+    rw all at l.invariant.1

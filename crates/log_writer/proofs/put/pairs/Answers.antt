@@ -4,47 +4,33 @@ use mathlib.Core.Path.{sym, ap, ◌∙◌}
 use native.Mathlib.Omega.{arith}
 use lib.Seq.{sets}
 use Rattle.log_section.specs.Number.{little}
-use Rattle.log_section.specs.Log.{pair, nowhere, entry_bytes}
-use Rattle.log_writer.proofs.Putting.{paired_length, pair_stored, begun, put_one, put_all, section_put}
+use Rattle.log_section.specs.Log.{pair, entry_bytes}
+use Rattle.log_writer.proofs.Putting.{paired_length, paired_at, pair_stored, put_one, put_all, section_put}
 use Rattle.trap_log.proofs.RoundTrip.{pair_sized}
 use Rattle.log_writer.specs.Lists.{paired}
 use Rattle.log_writer.proofs.put.pairs.Goals as goal
-
-pub four-end-requires : goal.four-end-requires
-four-end-requires c = omega arith
-
-pub loop-i-init : goal.loop-i-init
-loop-i-init c = begun pair 16 pair_sized _ nowhere _ _
-
-pub bounds-fars-i : goal.bounds-fars-i
-bounds-fars-i c = omega arith
-
-pub bounds-hpfars-i : goal.bounds-hpfars-i
-bounds-hpfars-i c = omega arith
-
-pub loop-i-smaller : goal.loop-i-smaller
-loop-i-smaller c = omega arith
 
 pub loop-i-preserved : goal.loop-i-preserved
 loop-i-preserved c =
     let l = c.loop-i in
     let a = c.args in
-    let first = c.eight-middle.ensures in
-    let second = c.eight-end.ensures in
+    let first = c.put-middle.ensures in
+    let second = c.put-end.ensures in
     let same = c.requires.0 in
     let more = c.loop-i-test.true in
-    put_one pair 16 pair_sized (paired a.fars.now a.hpfars.now) nowhere _ _ l.invariant
-    (omega (arith, more, paired_length a.fars.now a.hpfars.now same)) _ _
-    (second.1 ∙ rw first.1 (pair_stored a.fars.now a.hpfars.now l.out l.i l.end _ same more first.0))
+    put_one pair 16 pair_sized (paired a.fars.now a.hpfars.now) _ _ l.invariant
+    (omega (arith, more, paired_length a.fars.now a.hpfars.now same)) _
+    (sym (paired_at a.fars.now a.hpfars.now l.i _ same more)) _ _
+    (second.1 ∙ rw first.1 (pair_stored a.fars.now a.hpfars.now l.out l.i l.end _ first.0))
     (omega (arith, first.0, second.0))
 
 pub returns : goal.returns
 returns c =
-    let f = c.four-end in
+    let f = c.count-end in
     let a = c.args in
     let same = c.requires.0 in
     let n = paired_length a.fars.now a.hpfars.now same in
-    let d = put_all pair 16 pair_sized (paired a.fars.now a.hpfars.now) nowhere _ _ c.loop-i.invariant
+    let d = put_all pair 16 pair_sized (paired a.fars.now a.hpfars.now) _ _ c.loop-i.invariant
     (omega (arith, n, c.loop-i-test.false)) in (
       omega (arith, d.0, f.ensures.0, n),
       section_put a.out.now _ _ (entry_bytes pair (paired a.fars.now a.hpfars.now)) a.at _ _

@@ -14,10 +14,5 @@ kept : (o : Origin) (r : Record) {allowed holds : Bool} → allowed ≡ field_ru
 kept o r a decided =
     ap (λ (b : Bool). cond b (mask_of (λ e. edition_rule e r)) 0) (sym decided ∙ a) ∙ field_mask (field_rule o r) (λ e. edition_rule e r)
 
-pub returns-then-layout_rule : goal.returns-then-layout_rule
-returns-then-layout_rule c =
-    let at = c in
-    c.edition_rule.ensures ∙ kept at.args.origin at.args.r at.layout_rule.ensures c.if-layout_rule.true
-
 pub returns-else-layout_rule : goal.returns-else-layout_rule
 returns-else-layout_rule c = kept c.args.origin c.args.r c.layout_rule.ensures c.if-layout_rule.false

@@ -20,16 +20,6 @@ by_edition s = mask_of (λ e. sort_rule e s)
 of-sort : (r : Record) {came part : Sort} {m : ℕ} → came ≡ sort_of r → came ≡ part → m ≡ by_edition part → m ≡ mask_of (λ e. edition_rule e r)
 of-sort r sorted same mask = mask ∙ ap by_edition (sym same ∙ sorted)
 
-pub returns-in-Plain : goal.returns-in-Plain
-returns-in-Plain c =
-    let at = c in
-    of-sort at.args.r at.sort.ensures c.in-Plain.is c.all_editions.ensures
-
-pub returns-in-Addressed : goal.returns-in-Addressed
-returns-in-Addressed c =
-    let at = c in
-    of-sort at.args.r at.sort.ensures c.in-Addressed.is c.all_editions-in-Addressed.ensures
-
 pub returns-in-InstructionAbort : goal.returns-in-InstructionAbort
 returns-in-InstructionAbort c =
     let at = c in
@@ -47,8 +37,3 @@ returns-in-DataAbort c =
     c.isv_rule.ensures
     ∙ both_masks (λ e. data_code e c.in-DataAbort.x.code && set_rule e c.in-DataAbort.x.set c.in-DataAbort.x.code)
     (λ e. isv_rule e c.in-DataAbort.x.isv c.in-DataAbort.x.code))
-
-pub returns-in-SError : goal.returns-in-SError
-returns-in-SError c =
-    let at = c in
-    of-sort at.args.r at.sort.ensures c.in-SError.is c.error_code.ensures

@@ -16,33 +16,6 @@ use Rattle.short_rule.proofs.code.edition_rule.Goals as goal
 abbrev by_edition : Record → ℕ
 by_edition r = mask_of (λ e. edition_rule e r)
 
-pub returns-in-Plain : goal.returns-in-Plain
-returns-in-Plain c = at_arm by_edition c.all_editions.ensures c.in-Plain.is
-
-pub returns-in-Wfx : goal.returns-in-Wfx
-returns-in-Wfx c = at_arm by_edition c.all_editions-in-Wfx.ensures c.in-Wfx.is
-
-pub returns-in-Mcr : goal.returns-in-Mcr
-returns-in-Mcr c = at_arm by_edition c.all_editions-in-Mcr.ensures c.in-Mcr.is
-
-pub returns-in-Mcrr : goal.returns-in-Mcrr
-returns-in-Mcrr c = at_arm by_edition c.all_editions-in-Mcrr.ensures c.in-Mcrr.is
-
-pub returns-in-Ldc : goal.returns-in-Ldc
-returns-in-Ldc c = at_arm by_edition c.all_editions-in-Ldc.ensures c.in-Ldc.is
-
-pub returns-in-Simd : goal.returns-in-Simd
-returns-in-Simd c = at_arm by_edition c.all_editions-in-Simd.ensures c.in-Simd.is
-
-pub returns-in-Call : goal.returns-in-Call
-returns-in-Call c = at_arm by_edition c.all_editions-in-Call.ensures c.in-Call.is
-
-pub returns-in-Smc : goal.returns-in-Smc
-returns-in-Smc c = at_arm by_edition c.all_editions-in-Smc.ensures c.in-Smc.is
-
-pub returns-in-InstructionAbort : goal.returns-in-InstructionAbort
-returns-in-InstructionAbort c = at_arm by_edition c.instruction_code.ensures c.in-InstructionAbort.is
-
 pub returns-in-DataAbort : goal.returns-in-DataAbort
 returns-in-DataAbort c =
     let code = c.in-DataAbort.x.code in

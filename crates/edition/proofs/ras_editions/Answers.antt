@@ -1,9 +1,0 @@
--- `edition::ras_editions` meets its contract: the mask is computed.
--- Assumes nothing.
-use mathlib.Core.Path.{refl}
-use Rattle.edition.specs.Mask.{mask_of}
-use Rattle.edition.proofs.ras_editions.Goals as goal
-
-pub returns : goal.returns
-unfolding mask_of
-returns c = refl

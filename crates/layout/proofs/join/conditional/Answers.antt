@@ -1,7 +1,0 @@
--- `layout::join::conditional` meets its contract: `|` of the fields, each as its call ensures.
--- Assumes nothing.
-use Rattle.bits.proofs.Or.{◌also◌}
-use Rattle.layout.proofs.join.conditional.Goals as goal
-
-pub returns : goal.returns
-returns c = c.head_of.ensures also c.flag.ensures also c.place.ensures

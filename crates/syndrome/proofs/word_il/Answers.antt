@@ -1,6 +1,0 @@
--- `syndrome::word_il` meets its contract: EC, ISV and IL of the word.
--- Assumes nothing.
-use Rattle.syndrome.proofs.word_il.Goals as goal
-
-pub returns : goal.returns
-returns c = cc
