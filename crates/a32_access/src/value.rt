@@ -28,8 +28,12 @@ impl Bank {
         if number == 15 {
             return program_counter(self.pc);
         }
+        // Kept: an index and its test: an option of a reference is a pointer behind a tag, which lies elsewhere on a 32-bit board.
         match held_in(self.mode, number) {
-            Some(n) => self.regs.get(n as usize).copied().unwrap_or(0),
+            Some(n) => {
+                let at = n as usize;
+                if at < 31 { self.regs[at] } else { 0 }
+            }
             None => 0,
         }
     }
