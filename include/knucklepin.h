@@ -16,9 +16,9 @@
  * floating-point or SIMD register, no memory that is written but what a call is lent and the stack. A call, with all that it calls, takes
  * at most so many bytes of stack on AArch64, and on 32-bit Arm:
  *
- *   knucklepin_a32_describe           896   384
+ *   knucklepin_a32_describe           896  1024
  *   knucklepin_a32_encode             128   128
- *   knucklepin_a32_finish            2688  2304
+ *   knucklepin_a32_finish            2688  2688
  *   knucklepin_a32_form               128   128
  *   knucklepin_a32_rewrite            128   256
  *   knucklepin_aarch64_read           384   384
