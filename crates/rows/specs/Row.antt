@@ -1,10 +1,6 @@
 -- What stands in a row: its word, spelled as one number, and its numbers, which are 0 where it has none.
-use Rattle.std.specs.Prelude.{ℕ, zero, suc, ◌+◌, ◌*◌, ◌%◌, ◌^◌, Bool, true, ◌&&◌, ◌||◌, List, [], ◌∷◌, eqb, ltb, leb, length, get_or, replicate}
+use Rattle.std.specs.Prelude.{ℕ, zero, suc, ◌+◌, ◌*◌, ◌%◌, ◌^◌, Bool, true, ◌&&◌, ◌||◌, List, [], ◌∷◌, eqb, ltb, leb, length, get_or}
 use Rattle.rows.specs.declared.row.Row.{Row}
-
--- a line that is no row: no letters spell 0
-abbrev pub no_line : Row
-no_line = record { word = 0; count = 0; numbers = replicate 256 0 }
 
 -- a word with one letter more: its last eight letters are a number of 64 bits
 abbrev pub with_letter : ℕ → ℕ → ℕ
