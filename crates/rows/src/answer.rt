@@ -14,9 +14,9 @@ pub trait Calls {
 //
 // A proved loop has to end, and nothing says that the input does: it counts up to a number that no run reaches.
 pub fn answer_all<R: Read, W: Write, C: Calls>(input: &mut R, output: &mut W, calls: &C) {
-    let mut rows = Rows::new(input);
+    let mut rows = Rows::new();
     for _ in 0..u64::MAX {
-        let Some(row) = rows.next_row() else {
+        let Some(row) = rows.next_row(input) else {
             break;
         };
         if !write(output, calls.reply(row)) {

@@ -114,19 +114,20 @@ fn row_of(line: Line) -> Row
     }
 }
 
-// The rows of a reader, which is read by way of a chunk: the bytes from one place to another are still to come.
-#[derive(Drop)]
-pub struct Rows<'a, R: Read> {
-    source: &'a mut R,
+// The rows of an input, which is read by way of a chunk: the bytes from one place to another are still to come.
+#[derive(Clone, Copy)]
+pub struct Rows {
     chunk: [u8; 512],
     from: usize,
     to: usize,
 }
 
-impl<'a, R: Read> Rows<'a, R> {
-    pub fn new(source: &'a mut R) -> Self {
+impl Rows {
+    // Nothing has been read.
+    pub fn new() -> Rows
+        ensures { result.from ≡ result.to }
+    {
         Rows {
-            source,
             chunk: [0; 512],
             from: 0,
             to: 0,
@@ -134,10 +135,10 @@ impl<'a, R: Read> Rows<'a, R> {
     }
 
     // The next byte of the input. A read that fails ends it.
-    fn next_byte(&mut self) -> Option<u8> {
+    fn next_byte<R: Read>(&mut self, source: &mut R) -> Option<u8> {
         if self.from >= self.to {
             self.from = 0;
-            self.to = self.source.read(&mut self.chunk).unwrap_or(0);
+            self.to = source.read(&mut self.chunk).unwrap_or(0);
         }
         let bytes = self.chunk.get(self.from..self.to)?;
         let byte = *bytes.first()?;
@@ -149,17 +150,21 @@ impl<'a, R: Read> Rows<'a, R> {
     // is empty.
     //
     // A proved loop has to end, and nothing says that a line does: it counts up to a number that no run reaches.
-    pub fn next_row(&mut self) -> Option<Row>
+    pub fn next_row<R: Read>(&mut self, source: &mut R) -> Option<Row>
         ensures { IfSome result (λ row. row.count ≤ 256) }
     {
-        let mut line = None;
+        let mut line = empty_line();
+        let mut begun = false;
         for _ in 0..u64::MAX {
-            match self.next_byte() {
-                Some(b'\n') => return Some(row_of(line.unwrap_or(empty_line()))),
-                Some(byte) => line = Some(feed(line.unwrap_or(empty_line()), byte)),
+            match self.next_byte(source) {
+                Some(b'\n') => return Some(row_of(line)),
+                Some(byte) => {
+                    line = feed(line, byte);
+                    begun = true;
+                }
                 None => break,
             }
         }
-        line.map(row_of)
+        if begun { Some(row_of(line)) } else { None }
     }
 }

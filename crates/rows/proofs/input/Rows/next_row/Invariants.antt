@@ -1,6 +1,6 @@
-use Rattle.std.proofs.Common.{◌≤◌, IfSome}
+use Rattle.std.proofs.Common.{◌≤◌}
 use Rattle.rows.proofs.input.Rows.next_row.Given as goal
 
--- a line that has begun holds no more numbers than it has places
+-- a line holds no more numbers than it has places
 abbrev pub invariant-loop : goal.invariant-loop
-invariant-loop g l = IfSome l.line (λ line. line.count ≤ 256)
+invariant-loop g l = l.line.count ≤ 256
