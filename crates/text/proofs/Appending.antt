@@ -1,14 +1,13 @@
 -- Appending nothing changes nothing, and one text after another is the two together.
 -- Assumes nothing.
 use mathlib.Core.Path.{◌≡◌, refl, sym, ◌∙◌}
-use mathlib.Core.List.{List, [], ◌∷◌, ◌++◌, append_assoc}
+use mathlib.Core.List.{List, [], ◌∷◌, ◌++◌}
 use Prim.Native.Nat.{ℕ, suc, ◌+◌, ◌-◌, ◌≤◌}
 use Rattle.std.specs.Prelude.{min}
 use native.Mathlib.Nat.{add-zero, add-suc, suc-add}
 use native.Mathlib.Decide.{dec_le}
 use native.Mathlib.Omega.{arith}
-use Rattle.std.proofs.lemmas.List.{drop-drop}
-use lib.ListN.{length, take, drop, length-append, length-take, take-append-drop}
+use lib.ListN.{length, take, drop, length-append, length-take}
 use lib.Seq.{sets, sets-eq, set_out, drop-length, length-sets, length-take-le, take_at}
 use Rattle.io.specs.Counts.{IsPrefixLen}
 use Rattle.text.specs.Append.{end_of, Appends, Extends}
@@ -34,27 +33,15 @@ sets_end xs ys l at (no full) =
     λ i p. sets_out ys (sets l at xs) i (rw length-sets p) in
     out (end_of (length l) at (length xs)) (omega arith) ∙ sym (out (at + length xs) (omega arith)) ∙ sets_both xs ys l at
 
--- as many bytes as have room, stored in one piece
-pub sets_cut : (vs l : List ℕ) (at n : ℕ) → at ≤ length l → n ≡ min (length vs) (length l - at)
-    → take at l ++ (take n vs ++ drop (at + n - at) (drop at l)) ≡ sets l at vs
-sets_cut vs l at n inside e =
-    let back : at + n - at ≡ n = omega arith in
-    rw (back, drop-drop) (sym here ∙ rest (dec_le (length vs) n) ∙ both)
+-- behind as many bytes as have room the rest is stored nowhere
+pub left_out : (vs l : List ℕ) (at n : ℕ) → n ≡ min (length vs) (length l - at) → sets l (at + n) (drop n vs) ≡ l
+left_out vs l at n e = rest (dec_le (length vs) n)
   where
-    size : length (take n vs) ≡ n
-    size = length-take-le n vs (omega arith)
-
-    here : sets l at (take n vs) ≡ take at l ++ (take n vs ++ drop (at + n) l)
-    here = sets-eq (take n vs) l at (omega (arith, size)) ∙ rw (size, append_assoc)
-
-    both : sets (sets l at (take n vs)) (at + n) (drop n vs) ≡ sets l at vs
-    both = rw (size, take-append-drop) at (sets_both (take n vs) (drop n vs) l at)
-
-    rest : Dec (length vs ≤ n) → sets l at (take n vs) ≡ sets (sets l at (take n vs)) (at + n) (drop n vs)
+    rest : Dec (length vs ≤ n) → sets l (at + n) (drop n vs) ≡ l
     rest (yes all) =
         let whole : n ≡ length vs = omega arith in
         rw (whole, drop-length)
-    rest (no some) = sym (sets_out (drop n vs) (sets l at (take n vs)) (at + n) (omega (arith, length-sets l at (take n vs))))
+    rest (no some) = sets_out (drop n vs) l (at + n) (omega arith)
 
 end_both : (room at m n : ℕ) → end_of room (end_of room at m) n ≡ end_of room at (m + n)
 end_both room at m n = omega arith
@@ -66,12 +53,6 @@ appends_both {xs} {ys} {before} {at = at} a b =
       stored = b.stored ∙ rw (a.stored, a.ended) (sets_end xs ys before at (dec_le (at + length xs) (length before)));
       ended = b.ended ∙ rw (a.stored, a.ended, length-sets, length-append) (end_both (length before) at (length xs) (length ys));
     }
-
--- where there is nothing to append, or no room
-pub nothing : (bytes text : List ℕ) (at : ℕ) → min (length bytes) (length text - at) ≡ 0 → Appends bytes text at text at
-nothing [] text at e = record { stored = refl; ended = omega arith }
-nothing (b ∷ bytes) text at e =
-    record { stored = sym (sets_out (b ∷ bytes) text at (omega arith)); ended = omega arith }
 
 pub appends_none : (text : List ℕ) (at : ℕ) → Appends [] text at text at
 appends_none text at = record { stored = refl; ended = omega arith }

@@ -40,12 +40,12 @@ impl<'a> Text<'a> {
     pub fn append(&mut self, bytes: &[u8])
         ensures { Extends bytes.now self.old self.new }
     {
-        let room = self.bytes.len().saturating_sub(self.end);
-        let n = bytes.len().min(room);
-        if n > 0 {
-            self.bytes[self.end..self.end + n].copy_from_slice(&bytes[..n]);
-            self.end += n;
+        let end = self.end;
+        let n = bytes.len().min(self.bytes.len().saturating_sub(end));
+        for i in 0..n {
+            self.bytes[end + i] = bytes[i];
         }
+        self.end = end + n;
     }
 
     // Appends a number in decimal.
