@@ -1,14 +1,13 @@
 -- Bytes put into a buffer one after the other, and the entries of a section put one by one.
 -- Assumes nothing.
 use mathlib.Core.Path.{◌≡◌, refl, sym, ap, ◌∙◌}
-use mathlib.Core.List.{List, [], ◌∷◌, ◌++◌, append_assoc}
+use mathlib.Core.List.{List, [], ◌∷◌, ◌++◌}
 use Prim.Native.Nat.{ℕ, zero, suc, ◌+◌, ◌*◌, ◌/◌, ◌%◌, ◌^◌, ◌≤◌, ◌<◌}
 use native.Mathlib.Nat.{add-zero, add_assoc, zero-mul, suc-mul, div-div-eq-div-mul, mod-eq_of_lt, pow-zero, pow-suc, div-one}
 use native.Mathlib.Numerals.{add-one}
 use native.Mathlib.Omega.{arith}
-use lib.ListN.{length, take, drop, get_or, set}
-use lib.Seq.{sets, sets-eq, drop-drop, length-sets, drop-cons, drop-length}
-use borrow.Rule.Slice.PartMut.{put_mid}
+use lib.ListN.{length, drop, get_or, set}
+use lib.Seq.{sets, length-sets, drop-cons, drop-length}
 use Rattle.std.specs.Int.{bytes_low_first}
 use Rattle.log_section.specs.Number.{little}
 use Rattle.log_section.specs.Log.{Address, byte, pair, entry_bytes}
@@ -33,17 +32,34 @@ low_first (suc k) (suc i) n =
 pub low_bytes : (k n : ℕ) → bytes_low_first 0 k n ≡ little k n
 low_bytes k n = low_first k 0 n ∙ rw (pow-zero, div-one)
 
--- of the bytes of a number, the first ones
-pub first_bytes : (j k n : ℕ) → j ≤ k → take j (little k n) ≡ little j n
+-- bytes stored one by one
+pub two_stored : (l bytes : List ℕ) (at n : ℕ) → bytes ≡ little 2 n → set (set l at (get_or bytes 0 0)) (at + 1) (get_or bytes 1 0) ≡ sets l at (little 2 n)
 unfolding little
-first_bytes zero k n h = refl
-first_bytes (suc j) zero n h = absurd (omega arith)
-first_bytes (suc j) (suc k) n h = ap (λ (rest : List ℕ). n % 256 ∷ rest) (first_bytes j k (n / 256) (omega arith))
+two_stored l bytes at n e = rw (e, add-one at)
 
--- bytes copied over a part of a buffer
-pub copied : (l vs : List ℕ) (at k : ℕ) → k ≡ length vs → at + k ≤ length l → put_mid at k l vs ≡ sets l at vs
-copied l vs at k e h =
-    rw e (ap (λ (rest : List ℕ). take at l ++ (vs ++ rest)) (drop-drop (length vs) at l) ∙ sym (sets-eq vs l at (rw e at h) ∙ append_assoc (take at l) vs (drop (at + length vs) l)))
+-- so many of a number's bytes, the first of them stored
+abbrev pub four_of : List ℕ → List ℕ → ℕ → List ℕ
+four_of l bytes at = set (set (set (set l at (get_or bytes 0 0)) (at + 1) (get_or bytes 1 0)) (at + 2) (get_or bytes 2 0)) (at + 3) (get_or bytes 3 0)
+
+pub four_stored : (l bytes : List ℕ) (at n : ℕ) → bytes ≡ little 8 n → four_of l bytes at ≡ sets l at (little 4 n)
+unfolding little
+four_stored l bytes at n e =
+    let two : at + 2 ≡ suc (suc at) = omega arith in
+    let three : at + 3 ≡ suc (suc (suc at)) = omega arith in
+    rw (e, add-one at, two, three)
+
+pub eight_stored : (l bytes : List ℕ) (at n : ℕ) → bytes ≡ little 8 n
+    → set (set (set (set (four_of l bytes at) (at + 4) (get_or bytes 4 0)) (at + 5) (get_or bytes 5 0)) (at + 6) (get_or bytes 6 0)) (at + 7) (get_or bytes 7 0)
+    ≡ sets l at (little 8 n)
+unfolding little
+eight_stored l bytes at n e =
+    let two : at + 2 ≡ suc (suc at) = omega arith in
+    let three : at + 3 ≡ suc (suc (suc at)) = omega arith in
+    let four : at + 4 ≡ suc (suc (suc (suc at))) = omega arith in
+    let five : at + 5 ≡ suc (suc (suc (suc (suc at)))) = omega arith in
+    let six : at + 6 ≡ suc (suc (suc (suc (suc (suc at))))) = omega arith in
+    let seven : at + 7 ≡ suc (suc (suc (suc (suc (suc (suc at)))))) = omega arith in
+    rw (e, add-one at, two, three, four, five, six, seven)
 
 pub byte_stored : (l : List ℕ) (at n : ℕ) → n < 256 → set l at n ≡ sets l at (byte n)
 unfolding little

@@ -40,7 +40,9 @@ impl Entry for u16 {
     ghost sized = { length_little 2 };
 
     fn put(self, out: &mut [u8], at: usize) -> usize {
-        out[at..at + 2].copy_from_slice(&self.to_le_bytes());
+        let bytes = self.to_le_bytes();
+        out[at] = bytes[0];
+        out[at + 1] = bytes[1];
         at + 2
     }
 }
@@ -53,7 +55,15 @@ impl Entry for u64 {
     ghost sized = { length_little 8 };
 
     fn put(self, out: &mut [u8], at: usize) -> usize {
-        out[at..at + 8].copy_from_slice(&self.to_le_bytes());
+        let bytes = self.to_le_bytes();
+        out[at] = bytes[0];
+        out[at + 1] = bytes[1];
+        out[at + 2] = bytes[2];
+        out[at + 3] = bytes[3];
+        out[at + 4] = bytes[4];
+        out[at + 5] = bytes[5];
+        out[at + 6] = bytes[6];
+        out[at + 7] = bytes[7];
         at + 8
     }
 }
@@ -63,7 +73,11 @@ fn count(out: &mut [u8], at: usize, n: usize) -> usize
     requires { at + 4 ≤ length out.old }
     ensures { (result ≡ at + 4) × (out.new ≡ sets out.old at (little 4 n)) }
 {
-    out[at..at + 4].copy_from_slice(&n.to_le_bytes()[..4]);
+    let bytes = n.to_le_bytes();
+    out[at] = bytes[0];
+    out[at + 1] = bytes[1];
+    out[at + 2] = bytes[2];
+    out[at + 3] = bytes[3];
     at + 4
 }
 

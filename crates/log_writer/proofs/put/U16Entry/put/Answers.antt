@@ -1,15 +1,15 @@
 -- `log_writer::put::U16Entry::put` meets its contract.
 -- Assumes nothing.
-use mathlib.Core.Path.{refl, ap, ◌∙◌}
+use mathlib.Core.Path.{refl, ◌∙◌}
 use native.Mathlib.Omega.{arith}
-use lib.ListN.{length}
-use lib.Seq.{sets}
-use Rattle.log_section.proofs.Numbers.{length_little}
-use Rattle.log_writer.proofs.Putting.{low_bytes, copied}
+use lib.ListN.{length-set}
+use Rattle.log_writer.proofs.Putting.{low_bytes, two_stored}
 use Rattle.log_writer.proofs.put.U16Entry.put.Goals as goal
+
+pub bounds-out-at-2 : goal.bounds-out-at-2
+bounds-out-at-2 c = simp length-set (omega arith)
 
 pub returns : goal.returns
 returns c =
     let a = c.args in
-    let bytes = c.copy_from_slice.ensures.after ∙ c.to_le_bytes.ensures ∙ low_bytes 2 a.self in
-    (refl, copied a.out.now _ a.at _ (omega (arith, ap length bytes, length_little 2 a.self)) (omega arith) ∙ ap (sets a.out.now a.at) bytes)
+    (refl, two_stored a.out.now _ a.at a.self (c.to_le_bytes-bytes.ensures ∙ low_bytes 2 a.self))
