@@ -2,7 +2,7 @@
 // flag as 0 or 1, and zeros after them.
 #![tactic(auto)]
 
-ghost use Rattle.std.specs.Prelude.{◌≡◌, ◌-◌, ◌≤◌, ◌∷◌, ◌++◌};
+ghost use Rattle.std.specs.Prelude.{◌≡◌, ◌-◌, ◌∷◌, ◌++◌, take};
 ghost use Rattle.record_words.specs.Words.{zeros, plain_words, wfx_words, mcr_words, mcrr_words, ldc_words, simd_words, call_words, smc_words};
 ghost use Rattle.record_words.specs.Words.{instruction_abort_words, data_abort_words, debug_words, step_words, watchpoint_words};
 ghost use Rattle.record_words.specs.Words.{serror_words, system_words, words_of};
@@ -12,15 +12,16 @@ use record::{
     Step, System, Watchpoint, Wfx,
 };
 
-// The number of a kind, its fields, and zeros up to sixteen.
+// The number of a kind, its fields, and zeros up to sixteen. Fields past the fifteenth have no place, and are left out.
 // Kept: a kind is a number in words, by the C interface.
 pub fn padded<const N: usize>(kind: u32, fields: [u32; N]) -> [u32; 16]
-    requires { N ≤ 15 }
-    ensures { result ≡ kind ∷ fields.entry ++ zeros (15 - N) }
+    ensures { result ≡ kind ∷ take 15 fields.entry ++ zeros (15 - N) }
 {
     let mut words = [0; 16];
     words[0] = kind;
-    words[1..=N].copy_from_slice(&fields);
+    for i in 0..N.min(15) {
+        words[1 + i] = fields[i];
+    }
     words
 }
 

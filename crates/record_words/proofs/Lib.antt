@@ -1,0 +1,2 @@
+-- A law that the proofs here cite, and crate a32_words.
+pub mod Placed
