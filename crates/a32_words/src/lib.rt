@@ -94,10 +94,16 @@ pub fn access_words(access: Access) -> [u32; 16]
     ensures { result ≡ access_words access }
 {
     let f = access.fields;
+    let after = fields_after(f);
+    let moved = shape_words(shape_of(f));
     let mut words = [0u32; 16];
     words[0] = form_number(f);
-    words[1..10].copy_from_slice(&fields_after(f));
-    words[10..13].copy_from_slice(&shape_words(shape_of(f)));
+    for i in 0..9 {
+        words[1 + i] = after[i];
+    }
+    for i in 0..3 {
+        words[10 + i] = moved[i];
+    }
     words[13] = access.count;
     words[14] = access.address;
     words[15] = sum(0, access.change);

@@ -1,2 +1,3 @@
--- Laws that other crates cite.
+-- Laws that other crates cite, and one that the proofs here do.
+pub mod Copy
 pub mod RoundTrip

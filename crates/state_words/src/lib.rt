@@ -12,7 +12,9 @@ fn registers_in(words: [u32; 48]) -> [u32; 31]
     ensures { result ≡ take 31 words }
 {
     let mut regs = [0u32; 31];
-    regs.copy_from_slice(&words[..31]);
+    for i in 0..31 {
+        regs[i] = words[i];
+    }
     regs
 }
 
@@ -76,7 +78,9 @@ fn with_registers(words: [u32; 48], regs: [u32; 31]) -> [u32; 48]
     ensures { (length regs ≡ 31) × (result ≡ regs ++ drop 31 words) }
 {
     let mut after = words;
-    after[..31].copy_from_slice(&regs);
+    for i in 0..31 {
+        after[i] = regs[i];
+    }
     after
 }
 

@@ -1,11 +1,11 @@
--- `state_words::with_registers` meets its contract: the registers stand over the first 31 words.
+-- `state_words::with_registers` meets its contract: one register more stands over its word.
 -- Assumes nothing.
-use Rattle.std.proofs.Common.{arith}
-use Rattle.std.proofs.lemmas.List.{length-take}
+use Rattle.std.proofs.Common.{List, ℕ, get_or, set, ap, ◌∙◌, arith}
+use Rattle.state_words.proofs.Copy.{one_more}
 use Rattle.state_words.proofs.with_registers.Goals as goal
 
-pub slice_bounds-copy_from_slice-end : goal.slice_bounds-copy_from_slice-end
-slice_bounds-copy_from_slice-end c = omega (arith, length-take 31 c.args.words)
-
-pub copy_from_slice-requires : goal.copy_from_slice-requires
-copy_from_slice-requires c = omega (arith, length-take 31 c.args.words)
+pub loop-i-preserved : goal.loop-i-preserved
+loop-i-preserved c =
+    let regs = c.args.regs in
+    let i = c.loop-i.i in
+    ap (λ (l : List ℕ). set l i (get_or regs i 0)) c.loop-i.invariant ∙ one_more c.args.words regs i (omega arith) (omega arith)
