@@ -156,7 +156,7 @@ pub fn dfsr_word(fault: Fault, write: bool, domain: u8, ttbcr: u32) -> Option<u3
 }
 
 // Whether a fault can be written.
-// Kept: `fetch_writable` and `access_writable` name it, and the edit unwritable_taken.
+// Kept: each abort that guest injects goes through it (`coded`), and `fetch_writable` and `access_writable` name its definition.
 pub fn is_code(encoding: Option<u32>) -> bool
     ensures { result ≡ is_code encoding }
 {
@@ -164,7 +164,7 @@ pub fn is_code(encoding: Option<u32>) -> bool
 }
 
 // The word of a fault that can be written.
-// Kept: `asynchronous_dfsr` and `faults_after` name it, and the edit word_lost.
+// Kept: each abort that guest injects goes through it (`coded`), and `faults_after` names its definition.
 pub fn code_in(encoding: Option<u32>) -> u32
     ensures { result ≡ code_in encoding }
 {

@@ -1,6 +1,7 @@
 -- Inner contracts, which nobody has to believe: what an injection does is settled by `injected` (Inject.antt) alone.
-use Rattle.std.specs.Prelude.{ℕ, ◌^◌, cond, [], ◌∷◌, ltb, Result, Ok, Err}
+use Rattle.std.specs.Prelude.{ℕ, ◌^◌, cond, [], ◌∷◌, ltb, Option, Result, Ok, Err}
 use Rattle.bits.specs.Decide.{needs, decide}
+use Rattle.fault.specs.Fault.{is_code, code_in}
 use Rattle.exception.specs.declared.state.FaultRegisters.{FaultRegisters}
 use Rattle.exception.specs.declared.state.Guest.{Guest}
 use Rattle.guest.specs.declared.answer.InjectionRefusal.{InjectionRefusal}
@@ -8,6 +9,9 @@ use Rattle.guest.specs.declared.answer.InjectionRefusal.TheVariants.{UnwritableF
 use Rattle.guest.specs.declared.injection.Injection.{Injection}
 use Rattle.guest.specs.Tests.{writable, domain_fits, address_fits}
 use Rattle.guest.specs.Inject.{faults_after, guest_after, injection_answer}
+
+abbrev pub coded : Option ℕ → Result ℕ InjectionRefusal
+coded status = cond (is_code status) (Ok (code_in status)) (Err UnwritableFault)
 
 abbrev pub address_of : ℕ → Result ℕ InjectionRefusal
 address_of address = cond (ltb address (2 ^ 32)) (Ok address) (Err WideAddress)

@@ -1,15 +1,26 @@
 // What an abort writes to the guest's fault registers.
 ghost use Rattle.std.specs.Prelude.{◌≡◌};
 ghost use Rattle.guest.specs.declared.injection.Injection.TheVariants.{PrefetchAbort, DataAbort};
-ghost use Rattle.guest.specs.Inner.{address_of, report_of};
+ghost use Rattle.guest.specs.Inner.{coded, address_of, report_of};
 
 use crate::answer::InjectionRefusal;
 use crate::injection::{Access, Fetch, Injection};
 use exception::FaultRegisters;
-use fault::{dfsr_word, ifsr_word};
+use fault::{code_in, dfsr_word, ifsr_word, is_code};
 
 // DFSR's domain has four bits.
 const LAST_DOMAIN: u8 = 15;
+
+// The word that a fault status register holds.
+fn coded(encoding: Option<u32>) -> Result<u32, InjectionRefusal>
+    ensures { result ≡ coded encoding }
+{
+    if is_code(encoding) {
+        Ok(code_in(encoding))
+    } else {
+        Err(InjectionRefusal::UnwritableFault)
+    }
+}
 
 // The address that a fault address register holds.
 fn address_of(address: u64) -> Result<u32, InjectionRefusal>
@@ -25,7 +36,7 @@ fn fetch_report(
 ) -> Result<FaultRegisters, InjectionRefusal>
     ensures { result ≡ report_of (PrefetchAbort fetch) old ttbcr }
 {
-    let ifsr = ifsr_word(fetch.fault, ttbcr).ok_or(InjectionRefusal::UnwritableFault)?;
+    let ifsr = coded(ifsr_word(fetch.fault, ttbcr))?;
     let ifar = address_of(fetch.address)?;
     Ok(FaultRegisters { ifsr, ifar, ..old })
 }
@@ -37,9 +48,7 @@ fn access_report(
 ) -> Result<FaultRegisters, InjectionRefusal>
     ensures { result ≡ report_of (DataAbort access) old ttbcr }
 {
-    let dfsr = dfsr_word(access.fault, access.write, access.domain, ttbcr).ok_or(
-        InjectionRefusal::UnwritableFault,
-    )?;
+    let dfsr = coded(dfsr_word(access.fault, access.write, access.domain, ttbcr))?;
     if access.domain > LAST_DOMAIN {
         return Err(InjectionRefusal::WideDomain);
     }
