@@ -8,7 +8,7 @@ use Rattle.guest.specs.declared.answer.InjectionRefusal.{InjectionRefusal}
 use Rattle.guest.specs.declared.answer.InjectionRefusal.TheVariants.{UnwritableFault, WideAddress, WideDomain}
 use Rattle.guest.specs.declared.injection.Injection.{Injection}
 use Rattle.guest.specs.Tests.{writable, domain_fits, address_fits}
-use Rattle.guest.specs.Inject.{faults_after, guest_after, injection_answer}
+use Rattle.guest.specs.Inject.{faults_after, injection_answer}
 
 abbrev pub coded : Option ℕ → Result ℕ InjectionRefusal
 coded status = cond (is_code status) (Ok (code_in status)) (Err UnwritableFault)
@@ -26,10 +26,10 @@ report_of i old ttbcr =
     ∷ [])
     (Ok (faults_after i old ttbcr))
 
--- an answer, with the new state where it is taken
-abbrev pub with_state : Guest → Result Unit InjectionRefusal → Result Guest InjectionRefusal
-with_state after (Ok u) = Ok after
-with_state after (Err r) = Err r
+-- an answer, with the fault registers after it where it is taken
+abbrev pub with_faults : FaultRegisters → Result Unit InjectionRefusal → Result FaultRegisters InjectionRefusal
+with_faults faults (Ok u) = Ok faults
+with_faults faults (Err r) = Err r
 
-abbrev pub after_injection : Guest → Injection → Result Guest InjectionRefusal
-after_injection s i = with_state (guest_after s i) (injection_answer s i)
+abbrev pub judged : Guest → Injection → Result FaultRegisters InjectionRefusal
+judged s i = with_faults (faults_after i s.faults s.ttbcr) (injection_answer s i)

@@ -1,12 +1,12 @@
 // An injection into a guest's state, by value.
 ghost use Rattle.std.specs.Prelude.{◌≡◌};
 ghost use Rattle.guest.specs.Promise.{Injecting};
-ghost use Rattle.guest.specs.Inner.{after_injection};
+ghost use Rattle.guest.specs.Inner.{judged};
 
 use crate::answer::InjectionRefusal;
 use crate::injection::{Injection, injection_row};
 use crate::report::report_of;
-use exception::{Guest, aligned, enter};
+use exception::{FaultRegisters, Guest, aligned, enter};
 use status::sound;
 
 // Kept: a refusal gives the state back beside the answer (`refused_untouched`, proofs/Answers.antt).
@@ -16,10 +16,10 @@ pub struct Injected {
     pub state: Guest,
 }
 
-// The state after an injection, or why it is refused.
+// The fault registers after an injection, or why it is refused. The state, which is large, stays out of the answer.
 #[tactic(auto, unfolding(crate::specs::Inject::injection_answer))]
-fn after_injection(state: Guest, what: Injection) -> Result<Guest, InjectionRefusal>
-    ensures { result ≡ after_injection state what }
+fn judged(state: Guest, what: Injection) -> Result<FaultRegisters, InjectionRefusal>
+    ensures { result ≡ judged state what }
 {
     if !sound(state.marks, state.status) {
         return Err(InjectionRefusal::UnsoundStatus);
@@ -27,8 +27,7 @@ fn after_injection(state: Guest, what: Injection) -> Result<Guest, InjectionRefu
     if !aligned(state.vbar) {
         return Err(InjectionRefusal::UnalignedVbar);
     }
-    let faults = report_of(what, state.faults, state.ttbcr)?;
-    Ok(enter(state, injection_row(what), faults))
+    report_of(what, state.faults, state.ttbcr)
 }
 
 // The answer, with the state after it: a refusal's is the state that came.
@@ -36,11 +35,14 @@ fn after_injection(state: Guest, what: Injection) -> Result<Guest, InjectionRefu
 pub fn inject(state: Guest, what: Injection) -> Injected
     ensures { Injecting state what result }
 {
-    match after_injection(state, what) {
-        Ok(after) => Injected {
-            answer: Ok(()),
-            state: after,
-        },
+    match judged(state, what) {
+        Ok(faults) => {
+            let after = enter(state, injection_row(what), faults);
+            Injected {
+                answer: Ok(()),
+                state: after,
+            }
+        }
         Err(refusal) => Injected {
             answer: Err(refusal),
             state,
