@@ -105,7 +105,7 @@ fn status_of(row: Row, ttbcr: u32) -> Option<u32>
     ensures { result ≡ status_of row ttbcr }
 {
     let long = is_long(ttbcr);
-    column(row, long).map(|code| status_word(code, long))
+    column(row, long).map(move |code| status_word(code, long))
 }
 
 // An alignment fault, which no instruction fetch has.

@@ -37,7 +37,7 @@ fn rewrite(origin: Origin, reader: u32, writer: u32, word: u64) -> u64
     ensures { result ≡ rewritten origin reader writer word }
 {
     syndrome::read(origin, reader, Esr(word))
-        .and_then(|r| syndrome::write(origin, writer, r))
+        .and_then(move |r| syndrome::write(origin, writer, r))
         .map_or(REFUSED, |esr| esr.0)
 }
 
@@ -81,7 +81,7 @@ pub fn knucklepin_short_rewrite(reader: u32, writer: u32, word: u32) -> u64
     ensures { result ≡ rewritten_short reader writer word }
 {
     short::read(reader, Hsr(word))
-        .and_then(|r| short::write(writer, r))
+        .and_then(move |r| short::write(writer, r))
         .map_or(REFUSED, |hsr| hsr.0 as u64)
 }
 
