@@ -8,10 +8,11 @@
 
 ghost use Rattle.std.specs.Prelude.{◌≡◌, ◌≤◌, ◌*◌, length, take};
 ghost use Rattle.io.specs.Counts.{IsPrefixLen};
-ghost use Rattle.text.specs.Append.{Extends};
+ghost use Rattle.text.specs.Append.{Appends, Extends};
 ghost use Rattle.question.specs.Question.{question_of};
 ghost use Rattle.explain.specs.Answer.{answer_text};
 ghost use Rattle.explain.specs.Lines.{line_after, answers_in, end_text, Answered};
+ghost use Rattle.explain.specs.Arguments.{Lengthened};
 
 use question::Question;
 use registers::{Esr, Far, Hpfar, Hsr};
@@ -86,14 +87,17 @@ fn next_chunk<R: Read, E: Write>(input: &mut R, errors: &mut E, out: &mut [u8], 
     }
 }
 
-// Appends the answer to the last line. It may lack its newline, but what follows the last newline is no line where it is empty, nor is
-// what was read before a read or a write that failed.
-fn last(text: &mut Text<'_>, line: State, ended: bool)
-    ensures { Extends (end_text ended line) text.old text.new }
+// Appends the answer to the last line to an empty text. It may lack its newline, but what follows the last newline is no line where it is
+// empty, nor is what was read before a read or a write that failed.
+fn last(out: &mut [u8], line: State, ended: bool) -> usize
+    ensures appends { Appends (end_text ended line) out.old 0 out.new result }
+    ensures prefix_len { IsPrefixLen result out.new }
 {
+    let mut text = Text::new(out);
     if ended && line.count != 0 {
-        answer(text, question::finish(line));
+        answer(&mut text, question::finish(line));
     }
+    text.end
 }
 
 // Puts the answer to a whole line into a buffer that has room for any answer.
@@ -127,13 +131,14 @@ fn answer_input<R: Read, W: Write, E: Write>(
             break;
         }
     }
-    let mut text = Text::new(out);
-    last(&mut text, line, ended);
-    stream::write(output, errors, text.written())
+    let end = last(out, line, ended);
+    stream::write(output, errors, &out[..end])
 }
 
 // Appends an argument to a line, after a space where it isn't the first.
-fn add_argument<E: Env>(env: &E, line: &mut Text<'_>, i: usize) {
+fn add_argument<E: Env>(env: &E, line: &mut Text<'_>, i: usize)
+    ensures { Lengthened line.old line.new }
+{
     let mut one = io::buffer();
     let n = stream::argument(env, i, &mut one);
     if i != 1 {
@@ -143,10 +148,14 @@ fn add_argument<E: Env>(env: &E, line: &mut Text<'_>, i: usize) {
 }
 
 // The arguments as one line. What has no room is left out, and what is left is no line.
-fn arguments<E: Env>(env: &E, line: &mut Text<'_>, count: usize) {
+fn arguments<E: Env>(env: &E, line: &mut [u8], count: usize) -> usize
+    ensures { IsPrefixLen result line.new }
+{
+    let mut text = Text::new(line);
     for i in 1..count {
-        add_argument(env, line, i);
+        add_argument(env, &mut text, i);
     }
+    text.end
 }
 
 const HELP: [u8; 562] = *b"\
@@ -173,14 +182,13 @@ fn answer_arguments<A: Env, W: Write, E: Write>(
     errors: &mut E,
     count: usize,
 ) -> Result<(), Failed> {
-    let mut space = io::buffer();
-    let mut line = Text::new(&mut space);
-    arguments(env, &mut line, count);
-    if line.written() == b"--help".as_slice() {
+    let mut line = io::buffer();
+    let end = arguments(env, &mut line, count);
+    if &line[..end] == b"--help".as_slice() {
         return help(output, errors);
     }
     let mut out = io::buffer();
-    let told = answer_line(&mut out, line.written());
+    let told = answer_line(&mut out, &line[..end]);
     stream::write(output, errors, &out[..told])
 }
 
