@@ -7,7 +7,7 @@
 
 ghost use Rattle.std.specs.Prelude.{◌≡◌, ◌≤◌, ◌*◌, length, take};
 ghost use Rattle.io.specs.Counts.{IsPrefixLen};
-ghost use Rattle.text.specs.Append.{Extends};
+ghost use Rattle.text.specs.Append.{Appends, Extends};
 ghost use Rattle.trapread.specs.Answer.{field_text, refused_text, answer_text};
 ghost use Rattle.trapread.specs.Lines.{line_after, answers_in, end_text, Answered};
 
@@ -99,14 +99,17 @@ fn next_chunk<R: Read, E: Write>(input: &mut R, errors: &mut E, out: &mut [u8], 
     }
 }
 
-// Appends the answer to the last line. It may lack its newline, but what follows the last newline is no line where it is empty, nor is
-// what was read before a read or a write that failed.
-fn last(text: &mut Text<'_>, line: State, ended: bool)
-    ensures { Extends (end_text ended line) text.old text.new }
+// Appends the answer to the last line to an empty text. It may lack its newline, but what follows the last newline is no line where it is
+// empty, nor is what was read before a read or a write that failed.
+fn last(out: &mut [u8], line: State, ended: bool) -> usize
+    ensures appends { Appends (end_text ended line) out.old 0 out.new result }
+    ensures prefix_len { IsPrefixLen result out.new }
 {
+    let mut text = Text::new(out);
     if ended && line.count != 0 {
-        answer(text, line::finish(line));
+        answer(&mut text, line::finish(line));
     }
+    text.end
 }
 
 // Answers the lines of standard input. No contract can say what was written. A proved loop has to end, and nothing says that the input
@@ -129,9 +132,8 @@ fn answer_input<R: Read, W: Write, E: Write>(
             break;
         }
     }
-    let mut text = Text::new(out);
-    last(&mut text, line, ended);
-    stream::write(output, errors, text.written())
+    let end = last(out, line, ended);
+    stream::write(output, errors, &out[..end])
 }
 
 const HELP: [u8; 441] = *b"\
