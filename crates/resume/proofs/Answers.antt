@@ -23,7 +23,7 @@ use Rattle.resume.specs.Return.{mode_of, banked, saved_of, restored, back, retur
 use Rattle.resume.specs.Return.{returned}
 use Rattle.resume.specs.Same.{OnlyMoved}
 use Rattle.resume.specs.Promise.{Returning}
-use Rattle.resume.specs.Inner.{with_state, after_return}
+use Rattle.resume.specs.Inner.{with_word, judged}
 
 answered : (s : Guest) → Answers answer_number (return_answer s) (return_numbers s) (return_answer s)
 unfolding return_answer
@@ -66,27 +66,30 @@ by_answer s c e = told (result s c) e
 pub returns_so : (s : Guest) (c : Signed) → Passes s → returned s c ≡ record { answer = Ok tt; state = back s c }
 returns_so s c p = sym (by_answer s c (passed s p))
 
--- ---- the state after a return, or its refusal, as the answer and the state beside it
+-- ---- the saved word that a return takes, or its refusal, as the answer and the state beside it
 
-accepted_as : (a : Result Unit ReturnRefusal) (s after : Guest) {g : Guest} → Ok g ≡ with_state after a
-    → ◌≡◌ {A = Resumed} record { answer = Ok tt; state = g } record { answer = a; state = resulting a s after }
-accepted_as (Ok u) s after {g} e = let q : g ≡ after = cc e in ap (λ (x : Guest). record { answer = Ok tt; state = x }) q
-accepted_as (Err r) s after e = absurd_answer (cc e)
+accepted_as : (a : Result Unit ReturnRefusal) (s : Guest) (c : Signed) (word : ℕ) {w : ℕ} → Ok w ≡ with_word word a
+    → ◌≡◌ {A = Resumed} record { answer = Ok tt; state = restored s (mode_of s) w c }
+    record { answer = a; state = resulting a s (restored s (mode_of s) word c) }
+accepted_as (Ok u) s c word {w} e =
+    let q : w ≡ word = cc e in ap (λ (x : ℕ). record { answer = Ok tt; state = restored s (mode_of s) x c }) q
+accepted_as (Err r) s c word e = absurd_answer (cc e)
 
-refused_as : (a : Result Unit ReturnRefusal) (s after : Guest) {r : ReturnRefusal} → Err r ≡ with_state after a
+refused_as : (a : Result Unit ReturnRefusal) (s after : Guest) (word : ℕ) {r : ReturnRefusal} → Err r ≡ with_word word a
     → ◌≡◌ {A = Resumed} record { answer = Err r; state = s } record { answer = a; state = resulting a s after }
-refused_as (Ok u) s after e = absurd_answer (cc e)
-refused_as (Err UnsoundStatus) s after e = cc
-refused_as (Err NoSavedStatus) s after e = cc
-refused_as (Err UnsoundSaved) s after e = cc
+refused_as (Ok u) s after word e = absurd_answer (cc e)
+refused_as (Err UnsoundStatus) s after word e = cc
+refused_as (Err NoSavedStatus) s after word e = cc
+refused_as (Err UnsoundSaved) s after word e = cc
 
-pub took : (s : Guest) (c : Signed) (g : Guest) → Ok g ≡ after_return s c → Returning s c record { answer = Ok tt; state = g }
+pub took : (s : Guest) (c : Signed) (w : ℕ) → Ok w ≡ judged s
+    → Returning s c record { answer = Ok tt; state = restored s (mode_of s) w c }
 unfolding returned
-took s c g e = promised s c (accepted_as (return_answer s) s (back s c) e)
+took s c w e = promised s c (accepted_as (return_answer s) s c (saved_of (mode_of s) s.saved) e)
 
-pub refused : (s : Guest) (c : Signed) (r : ReturnRefusal) → Err r ≡ after_return s c → Returning s c record { answer = Err r; state = s }
+pub refused : (s : Guest) (c : Signed) (r : ReturnRefusal) → Err r ≡ judged s → Returning s c record { answer = Err r; state = s }
 unfolding returned
-refused s c r e = promised s c (refused_as (return_answer s) s (back s c) e)
+refused s c r e = promised s c (refused_as (return_answer s) s (back s c) (saved_of (mode_of s) s.saved) e)
 
 -- ---- what a return changes
 

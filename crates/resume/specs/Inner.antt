@@ -1,14 +1,13 @@
 -- An inner contract, which nobody has to believe: what a return does is settled by `returned` (Return.antt) alone.
-use Rattle.std.specs.Prelude.{Result, Ok, Err}
-use Rattle.signed.specs.declared.Signed.{Signed}
+use Rattle.std.specs.Prelude.{ℕ, Result, Ok, Err}
 use Rattle.exception.specs.declared.state.Guest.{Guest}
 use Rattle.resume.specs.declared.ReturnRefusal.{ReturnRefusal}
-use Rattle.resume.specs.Return.{back, return_answer}
+use Rattle.resume.specs.Return.{mode_of, saved_of, return_answer}
 
--- an answer, with the new state where it is taken
-abbrev pub with_state : Guest → Result Unit ReturnRefusal → Result Guest ReturnRefusal
-with_state after (Ok u) = Ok after
-with_state after (Err r) = Err r
+-- an answer, with the saved word where it is taken
+abbrev pub with_word : ℕ → Result Unit ReturnRefusal → Result ℕ ReturnRefusal
+with_word word (Ok u) = Ok word
+with_word word (Err r) = Err r
 
-abbrev pub after_return : Guest → Signed → Result Guest ReturnRefusal
-after_return s c = with_state (back s c) (return_answer s)
+abbrev pub judged : Guest → Result ℕ ReturnRefusal
+judged s = with_word (saved_of (mode_of s) s.saved) (return_answer s)

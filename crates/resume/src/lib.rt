@@ -5,7 +5,7 @@ ghost use Rattle.std.specs.Prelude.{◌≡◌};
 ghost use Rattle.resume.specs.Answer.{answer_number};
 ghost use Rattle.resume.specs.Return.{banked, saved_of, restored};
 ghost use Rattle.resume.specs.Promise.{Returning};
-ghost use Rattle.resume.specs.Inner.{after_return};
+ghost use Rattle.resume.specs.Inner.{judged};
 
 use bits::field32;
 use exception::{Guest, Saved, register};
@@ -70,10 +70,10 @@ fn restored(state: Guest, mode: u32, status: u32, correction: Signed) -> Guest
     }
 }
 
-// The state after a return, or why it is refused.
+// The saved word that a return takes, or why it is refused. The state, which is large, stays out of the answer.
 #[tactic(auto, unfolding(crate::specs::Return::return_answer))]
-fn after_return(state: Guest, correction: Signed) -> Result<Guest, ReturnRefusal>
-    ensures { result ≡ after_return state correction }
+fn judged(state: Guest) -> Result<u32, ReturnRefusal>
+    ensures { result ≡ judged state }
 {
     if !sound(state.marks, state.status) {
         return Err(ReturnRefusal::UnsoundStatus);
@@ -86,19 +86,23 @@ fn after_return(state: Guest, correction: Signed) -> Result<Guest, ReturnRefusal
     if !sound(state.marks, word) {
         return Err(ReturnRefusal::UnsoundSaved);
     }
-    Ok(restored(state, mode, word, correction))
+    Ok(word)
 }
 
 // The answer, with the state after it: a refusal's is the state that came. The correction is what was added to PC for the link.
-#[tactic(auto, using(crate::proofs::Answers::took, crate::proofs::Answers::refused))]
+#[tactic(auto, using(crate::proofs::Answers::took))]
 pub fn resume(state: Guest, correction: Signed) -> Resumed
     ensures { Returning state correction result }
 {
-    match after_return(state, correction) {
-        Ok(after) => Resumed {
-            answer: Ok(()),
-            state: after,
-        },
+    match judged(state) {
+        Ok(word) => {
+            let mode = field32(state.status as u64, 4, 0);
+            let after = restored(state, mode, word, correction);
+            Resumed {
+                answer: Ok(()),
+                state: after,
+            }
+        }
         Err(refusal) => Resumed {
             answer: Err(refusal),
             state,
