@@ -75,7 +75,7 @@ impl Unsigned<8> for u64 {
     }
 }
 
-// The same for numbers of so many bytes.
+// The same for numbers of so many bytes. Each half is read for itself: what comes after a read that failed in the lower one is the upper.
 pub fn numbers<R: Read, T: Unsigned<N>, const N: usize>(input: &mut R, space: &mut [T]) -> usize
     requires { N ≤ 8 }
 {
@@ -88,7 +88,9 @@ pub fn numbers<R: Read, T: Unsigned<N>, const N: usize>(input: &mut R, space: &m
     }
     for i in 0..given {
         let mut entry = [0u8; N];
-        read_full(input, &mut entry);
+        let halves = &mut entry[..];
+        read_full(input, &mut halves[..N / 2]);
+        read_full(input, &mut halves[N / 2..]);
         space[i] = T::of(entry);
     }
     length
