@@ -42,8 +42,16 @@ fn put(word: Option<u32>, place: &mut u32) -> u32
     ensures number { result ≡ spsr_number word }
     ensures word { place.new ≡ unwrap_or word 0 }
 {
-    *place = word.unwrap_or(0);
-    if word.is_some() { 0 } else { 9 }
+    match word {
+        Some(word) => {
+            *place = word;
+            0
+        }
+        None => {
+            *place = 0;
+            9
+        }
+    }
 }
 
 // The guest's status word, from the word that the hypervisor saved of it.
