@@ -8,7 +8,6 @@ use native.Mathlib.Nat.{not-suc-le-zero}
 use native.Mathlib.Omega.{arith}
 use lib.Dec.{eqb, ltb}
 use lib.ListN.{length, get_or}
-use lib.Pointwise.{pointwise, bytes_decides}
 use lib.Seq.{ext_get_or}
 use borrow.Author.Tests.{ltb-true, ltb-false, eqb-true, eq-eqb}
 use Rattle.bits.proofs.Booleans.{and_left, and_right}
@@ -46,15 +45,3 @@ same_at (suc n) a b e k h = go (same_at n a b (and_left (same_below n a b) (eqb 
 -- two lists of n words that are the same are one
 pub same_lists : (n : ℕ) (a b : List ℕ) → length a ≡ n → length b ≡ n → same_below n a b ≡ true → a ≡ b
 same_lists n a b la lb e = ext_get_or 0 a b (la ∙ sym lb) (λ k h. same_at n a b e k (omega arith))
-
--- what `==` answers of two lists of n words
-pub same_pairs : (n : ℕ) (a b : List ℕ) → length a ≡ n → length b ≡ n → pointwise eqb a b ≡ same_below n a b
-same_pairs n a b la lb = by_pairs (pointwise eqb a b) refl
-  where
-    by_words : pointwise eqb a b ≡ false → (t : Bool) → same_below n a b ≡ t → pointwise eqb a b ≡ same_below n a b
-    by_words p true s = (bytes_decides a b).1 (same_lists n a b la lb s) ∙ sym s
-    by_words p false s = p ∙ sym s
-
-    by_pairs : (t : Bool) → pointwise eqb a b ≡ t → pointwise eqb a b ≡ same_below n a b
-    by_pairs true p = p ∙ sym (subst (λ (l : List ℕ). same_below n a l ≡ true) ((bytes_decides a b).0 p) (same_all n a))
-    by_pairs false p = by_words p (same_below n a b) refl

@@ -2,13 +2,12 @@
 -- Assumes nothing.
 use mathlib.Core.Path.{◌≡◌, refl, sym, ◌∙◌}
 use mathlib.Core.List.{List, [], ◌∷◌, ◌++◌}
-use Prim.Native.Nat.{ℕ, suc, ◌+◌, ◌-◌, ◌≤◌}
-use Rattle.std.specs.Prelude.{min}
+use Prim.Native.Nat.{ℕ, suc, ◌+◌, ◌≤◌}
 use native.Mathlib.Nat.{add-zero, add-suc, suc-add}
 use native.Mathlib.Decide.{dec_le}
 use native.Mathlib.Omega.{arith}
 use lib.ListN.{length, take, drop, length-append, length-take}
-use lib.Seq.{sets, sets-eq, set_out, drop-length, length-sets, length-take-le, take_at}
+use lib.Seq.{sets, sets-eq, set_out, length-sets, length-take-le, take_at}
 use Rattle.io.specs.Counts.{IsPrefixLen}
 use Rattle.text.specs.Append.{end_of, Appends, Extends}
 use Rattle.text.specs.declared.Text.{Text}
@@ -32,16 +31,6 @@ sets_end xs ys l at (no full) =
     let out : (i : ℕ) → length l ≤ i → sets (sets l at xs) i ys ≡ sets l at xs =
     λ i p. sets_out ys (sets l at xs) i (rw length-sets p) in
     out (end_of (length l) at (length xs)) (omega arith) ∙ sym (out (at + length xs) (omega arith)) ∙ sets_both xs ys l at
-
--- behind as many bytes as have room the rest is stored nowhere
-pub left_out : (vs l : List ℕ) (at n : ℕ) → n ≡ min (length vs) (length l - at) → sets l (at + n) (drop n vs) ≡ l
-left_out vs l at n e = rest (dec_le (length vs) n)
-  where
-    rest : Dec (length vs ≤ n) → sets l (at + n) (drop n vs) ≡ l
-    rest (yes all) =
-        let whole : n ≡ length vs = omega arith in
-        rw (whole, drop-length)
-    rest (no some) = sets_out (drop n vs) l (at + n) (omega arith)
 
 end_both : (room at m n : ℕ) → end_of room (end_of room at m) n ≡ end_of room at (m + n)
 end_both room at m n = omega arith

@@ -40,12 +40,14 @@ impl<'a> Text<'a> {
     pub fn append(&mut self, bytes: &[u8])
         ensures { Extends bytes.now self.old self.new }
     {
-        let end = self.end;
-        let n = bytes.len().min(self.bytes.len().saturating_sub(end));
-        for i in 0..n {
-            self.bytes[end + i] = bytes[i];
+        let mut end = self.end;
+        for i in 0..bytes.len() {
+            if end < self.bytes.len() {
+                self.bytes[end] = bytes[i];
+                end += 1;
+            }
         }
-        self.end = end + n;
+        self.end = end;
     }
 
     // Appends a number in decimal.
