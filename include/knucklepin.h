@@ -21,7 +21,7 @@
  *   knucklepin_a32_finish            2688  2688
  *   knucklepin_a32_form               128   128
  *   knucklepin_a32_rewrite            128   256
- *   knucklepin_aarch64_read           384   384
+ *   knucklepin_aarch64_read           256   384
  *   knucklepin_aarch64_rewrite        384   384
  *   knucklepin_cause                  512   512
  *   knucklepin_coprocessor_finish     896   896
@@ -29,10 +29,10 @@
  *   knucklepin_delivery_correction    128   128
  *   knucklepin_edition_raw            128   128
  *   knucklepin_esr_read_raw           384   384
- *   knucklepin_esr_write_raw          512   512
- *   knucklepin_explain_short_raw      384   256
- *   knucklepin_explain_trap_raw       512   640
- *   knucklepin_explain_word_raw       384   640
+ *   knucklepin_esr_write_raw          384   512
+ *   knucklepin_explain_short_raw      256   384
+ *   knucklepin_explain_trap_raw       384   512
+ *   knucklepin_explain_word_raw       384   512
  *   knucklepin_finish                 768   768
  *   knucklepin_from_spsr              128   128
  *   knucklepin_held_in                128   128
@@ -47,7 +47,7 @@
  *   knucklepin_passes                 384   384
  *   knucklepin_raise                  128   128
  *   knucklepin_ran_raw                128   128
- *   knucklepin_read                   384   384
+ *   knucklepin_read                   256   384
  *   knucklepin_resume                 384   384
  *   knucklepin_rewrite                384   384
  *   knucklepin_short_edition_raw      128   128
